@@ -1,0 +1,5 @@
+//! The syntax of C: tokens' words, and the trees of the language.
+#![tactic(auto)]
+
+pub mod place;
+pub mod words;

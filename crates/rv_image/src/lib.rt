@@ -1,0 +1,4 @@
+//! The image of a program: what the compiler makes and the machine runs.
+#![tactic(auto)]
+
+pub mod image;
