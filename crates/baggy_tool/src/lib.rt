@@ -11,4 +11,6 @@ mod form;
 mod notes;
 mod reader;
 pub mod run;
+#[cfg(test)]
+mod tests;
 mod words;
