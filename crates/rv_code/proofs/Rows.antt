@@ -4,7 +4,7 @@ use Rattle.std.proofs.lemmas.Bool.{eqb-true}
 use Rattle.std.specs.Prelude.{IfSome, ◌==◌, if◌then◌else◌}
 use Rattle.rv_code.specs.declared.instr.Instr.{Instr}
 use Rattle.rv_code.specs.Formats.{opcode_of, rd_of, funct3_of, rs1_of, rs2_of, funct7_of, funct12_of, i_immediate, s_immediate, b_immediate, u_immediate, j_immediate}
-use Rattle.rv_code.specs.Code.{word_of, Fits, Encodes, jalr_row, branch_row, load_row, store_row, left_shift_row, right_shift_row, op_imm_row, base_row, product_row, other_row, op_row, fence_row, system_row, row_of, instruction_of}
+use Rattle.rv_code.specs.Code.{word_of, Fits, Encodes, jalr_row, branch_row, load_row, store_row, left_shift_row, right_shift_row, op_imm_row, base_row, extension_m_row, alternate_row, op_row, fence_row, system_row, row_of, instruction_of}
 use Rattle.rv_code.proofs.Words.{r_makes, plain_makes, i_makes, s_makes, b_makes, u_makes, j_makes}
 
 -- what is read of a word, if anything is, has that word
@@ -91,8 +91,8 @@ base_reads word small at at7 =
     by_test word (funct3_of word) 0b111 _ _ (λ e. the_row word _ (r_makes word 0b0000000 0b111 0b0110011 small at e at7)) (
     no_row word))))))))
 
-product_reads : (word : ℕ) → word < 2 ^ 32 → opcode_of word ≡ 0b0110011 → funct7_of word ≡ 0b0000001 → Reads word (product_row (funct3_of word) (rd_of word) (rs1_of word) (rs2_of word))
-product_reads word small at at7 =
+extension_m_reads : (word : ℕ) → word < 2 ^ 32 → opcode_of word ≡ 0b0110011 → funct7_of word ≡ 0b0000001 → Reads word (extension_m_row (funct3_of word) (rd_of word) (rs1_of word) (rs2_of word))
+extension_m_reads word small at at7 =
     by_test word (funct3_of word) 0b000 _ _ (λ e. the_row word _ (r_makes word 0b0000001 0b000 0b0110011 small at e at7)) (
     by_test word (funct3_of word) 0b001 _ _ (λ e. the_row word _ (r_makes word 0b0000001 0b001 0b0110011 small at e at7)) (
     by_test word (funct3_of word) 0b010 _ _ (λ e. the_row word _ (r_makes word 0b0000001 0b010 0b0110011 small at e at7)) (
@@ -103,8 +103,8 @@ product_reads word small at at7 =
     by_test word (funct3_of word) 0b111 _ _ (λ e. the_row word _ (r_makes word 0b0000001 0b111 0b0110011 small at e at7)) (
     no_row word))))))))
 
-other_reads : (word : ℕ) → word < 2 ^ 32 → opcode_of word ≡ 0b0110011 → funct7_of word ≡ 0b0100000 → Reads word (other_row (funct3_of word) (rd_of word) (rs1_of word) (rs2_of word))
-other_reads word small at at7 =
+alternate_reads : (word : ℕ) → word < 2 ^ 32 → opcode_of word ≡ 0b0110011 → funct7_of word ≡ 0b0100000 → Reads word (alternate_row (funct3_of word) (rd_of word) (rs1_of word) (rs2_of word))
+alternate_reads word small at at7 =
     by_test word (funct3_of word) 0b000 _ _ (λ e. the_row word _ (r_makes word 0b0100000 0b000 0b0110011 small at e at7)) (
     by_test word (funct3_of word) 0b101 _ _ (λ e. the_row word _ (r_makes word 0b0100000 0b101 0b0110011 small at e at7)) (
     no_row word))
@@ -112,8 +112,8 @@ other_reads word small at at7 =
 op_reads : (word : ℕ) → word < 2 ^ 32 → opcode_of word ≡ 0b0110011 → Reads word (op_row (funct7_of word) (funct3_of word) (rd_of word) (rs1_of word) (rs2_of word))
 op_reads word small at =
     by_test word (funct7_of word) 0b0000000 _ _ (λ e. base_reads word small at e) (
-    by_test word (funct7_of word) 0b0000001 _ _ (λ e. product_reads word small at e) (
-    by_test word (funct7_of word) 0b0100000 _ _ (λ e. other_reads word small at e) (
+    by_test word (funct7_of word) 0b0000001 _ _ (λ e. extension_m_reads word small at e) (
+    by_test word (funct7_of word) 0b0100000 _ _ (λ e. alternate_reads word small at e) (
     no_row word)))
 
 fence_reads : (word : ℕ) → word < 2 ^ 32 → opcode_of word ≡ 0b0001111 → Reads word (fence_row (funct3_of word) (rd_of word) (rs1_of word) (funct12_of word))

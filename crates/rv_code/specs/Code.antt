@@ -142,15 +142,15 @@ base_row funct3 rd rs1 rs2 =
     else None
 
 -- OP with funct7 0100000
-abbrev pub other_row : (funct3 rd rs1 rs2 : ℕ) → Option Instr
-other_row funct3 rd rs1 rs2 =
+abbrev pub alternate_row : (funct3 rd rs1 rs2 : ℕ) → Option Instr
+alternate_row funct3 rd rs1 rs2 =
     if funct3 == 0b000 then Some (Sub rd rs1 rs2)
     else if funct3 == 0b101 then Some (Sra rd rs1 rs2)
     else None
 
 -- OP with funct7 0000001, the extension M
-abbrev pub product_row : (funct3 rd rs1 rs2 : ℕ) → Option Instr
-product_row funct3 rd rs1 rs2 =
+abbrev pub extension_m_row : (funct3 rd rs1 rs2 : ℕ) → Option Instr
+extension_m_row funct3 rd rs1 rs2 =
     if funct3 == 0b000 then Some (Mul rd rs1 rs2)
     else if funct3 == 0b001 then Some (Mulh rd rs1 rs2)
     else if funct3 == 0b010 then Some (Mulhsu rd rs1 rs2)
@@ -165,8 +165,8 @@ product_row funct3 rd rs1 rs2 =
 abbrev pub op_row : (funct7 funct3 rd rs1 rs2 : ℕ) → Option Instr
 op_row funct7 funct3 rd rs1 rs2 =
     if funct7 == 0b0000000 then base_row funct3 rd rs1 rs2
-    else if funct7 == 0b0000001 then product_row funct3 rd rs1 rs2
-    else if funct7 == 0b0100000 then other_row funct3 rd rs1 rs2
+    else if funct7 == 0b0000001 then extension_m_row funct3 rd rs1 rs2
+    else if funct7 == 0b0100000 then alternate_row funct3 rd rs1 rs2
     else None
 
 -- MISC-MEM

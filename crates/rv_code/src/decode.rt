@@ -2,7 +2,7 @@
 ghost use Rattle.std.specs.Prelude.{◌≡◌, ◌≢◌, IfSome, IfNone};
 ghost use Rattle.rv_code.specs.declared.instr.Instr.{Instr};
 ghost use Rattle.rv_code.specs.Formats.{funct3_of, funct7_of, funct12_of, rd_of, rs1_of, rs2_of, i_immediate, s_immediate, b_immediate};
-ghost use Rattle.rv_code.specs.Code.{Fits, Encodes, word_of, instruction_of, jalr_row, branch_row, load_row, store_row, left_shift_row, right_shift_row, op_imm_row, base_row, product_row, other_row, op_row, fence_row, system_row};
+ghost use Rattle.rv_code.specs.Code.{Fits, Encodes, word_of, instruction_of, jalr_row, branch_row, load_row, store_row, left_shift_row, right_shift_row, op_imm_row, base_row, extension_m_row, alternate_row, op_row, fence_row, system_row};
 ghost use Rattle.rv_code.specs.Laws.{ReadsBack, ReadsOnly};
 
 use crate::fields::{
@@ -10,6 +10,7 @@ use crate::fields::{
     opcode, rd, rs1, rs2,
 };
 use crate::instr::Instr;
+use crate::opcodes::{AUIPC, BRANCH, JAL, JALR, LOAD, LUI, MISC_MEM, OP, OP_IMM, STORE, SYSTEM};
 use bb_words::word::Word;
 
 /// The instruction of a word, or `None` where the word is that of no instruction whose fields fit.
@@ -40,30 +41,31 @@ fn instruction(word: u32) -> Option<Instr>
     ensures { result ≡ instruction_of word }
 {
     match opcode(word) {
-        0b011_0111 => Some(Instr::Lui {
+        LUI => Some(Instr::Lui {
             rd: rd(word),
             imm: immediate_u(word),
         }),
-        0b001_0111 => Some(Instr::Auipc {
+        AUIPC => Some(Instr::Auipc {
             rd: rd(word),
             imm: immediate_u(word),
         }),
-        0b110_1111 => Some(Instr::Jal {
+        JAL => Some(Instr::Jal {
             rd: rd(word),
             imm: immediate_j(word),
         }),
-        0b110_0111 => jalr(word),
-        0b110_0011 => branch(word),
-        0b000_0011 => load(word),
-        0b010_0011 => store(word),
-        0b001_0011 => op_imm(word),
-        0b011_0011 => op(word),
-        0b000_1111 => fence(word),
-        0b111_0011 => system(word),
+        JALR => jalr(word),
+        BRANCH => branch(word),
+        LOAD => load(word),
+        STORE => store(word),
+        OP_IMM => op_imm(word),
+        OP => op(word),
+        MISC_MEM => fence(word),
+        SYSTEM => system(word),
         _ => None,
     }
 }
 
+/// JALR.
 #[inline]
 fn jalr(word: u32) -> Option<Instr>
     ensures { result ≡ jalr_row (funct3_of word) (rd_of word) (rs1_of word) (i_immediate word) }
@@ -77,6 +79,7 @@ fn jalr(word: u32) -> Option<Instr>
     }
 }
 
+/// An instruction of the opcode BRANCH.
 #[inline]
 fn branch(word: u32) -> Option<Instr>
     ensures { result ≡ branch_row (funct3_of word) (rs1_of word) (rs2_of word) (b_immediate word) }
@@ -95,6 +98,7 @@ fn branch(word: u32) -> Option<Instr>
     }
 }
 
+/// An instruction of the opcode LOAD.
 #[inline]
 fn load(word: u32) -> Option<Instr>
     ensures { result ≡ load_row (funct3_of word) (rd_of word) (rs1_of word) (i_immediate word) }
@@ -112,6 +116,7 @@ fn load(word: u32) -> Option<Instr>
     }
 }
 
+/// An instruction of the opcode STORE.
 #[inline]
 fn store(word: u32) -> Option<Instr>
     ensures { result ≡ store_row (funct3_of word) (rs1_of word) (rs2_of word) (s_immediate word) }
@@ -127,6 +132,7 @@ fn store(word: u32) -> Option<Instr>
     }
 }
 
+/// An instruction of the opcode OP-IMM.
 #[inline]
 fn op_imm(word: u32) -> Option<Instr>
     ensures { result ≡ op_imm_row (funct7_of word) (funct3_of word) (rd_of word) (rs1_of word) (rs2_of word) (i_immediate word) }
@@ -147,6 +153,7 @@ fn op_imm(word: u32) -> Option<Instr>
     }
 }
 
+/// A left shift of the opcode OP-IMM.
 #[inline]
 fn left_shift(word: u32) -> Option<Instr>
     ensures { result ≡ left_shift_row (funct7_of word) (rd_of word) (rs1_of word) (rs2_of word) }
@@ -160,6 +167,7 @@ fn left_shift(word: u32) -> Option<Instr>
     }
 }
 
+/// A right shift of the opcode OP-IMM.
 #[inline]
 fn right_shift(word: u32) -> Option<Instr>
     ensures { result ≡ right_shift_row (funct7_of word) (rd_of word) (rs1_of word) (rs2_of word) }
@@ -174,18 +182,20 @@ fn right_shift(word: u32) -> Option<Instr>
     }
 }
 
+/// An instruction of the opcode OP.
 #[inline]
 fn op(word: u32) -> Option<Instr>
     ensures { result ≡ op_row (funct7_of word) (funct3_of word) (rd_of word) (rs1_of word) (rs2_of word) }
 {
     match funct7(word) {
         0b000_0000 => base(word),
-        0b000_0001 => product(word),
-        0b010_0000 => other(word),
+        0b000_0001 => extension_m(word),
+        0b010_0000 => alternate(word),
         _ => None,
     }
 }
 
+/// An instruction of the opcode OP with 0000000 as funct7.
 #[inline]
 fn base(word: u32) -> Option<Instr>
     ensures { result ≡ base_row (funct3_of word) (rd_of word) (rs1_of word) (rs2_of word) }
@@ -206,9 +216,10 @@ fn base(word: u32) -> Option<Instr>
     }
 }
 
+/// An instruction of the opcode OP with 0000001 as funct7: the extension M.
 #[inline]
-fn product(word: u32) -> Option<Instr>
-    ensures { result ≡ product_row (funct3_of word) (rd_of word) (rs1_of word) (rs2_of word) }
+fn extension_m(word: u32) -> Option<Instr>
+    ensures { result ≡ extension_m_row (funct3_of word) (rd_of word) (rs1_of word) (rs2_of word) }
 {
     let rd = rd(word);
     let rs1 = rs1(word);
@@ -226,9 +237,10 @@ fn product(word: u32) -> Option<Instr>
     }
 }
 
+/// An instruction of the opcode OP with 0100000 as funct7.
 #[inline]
-fn other(word: u32) -> Option<Instr>
-    ensures { result ≡ other_row (funct3_of word) (rd_of word) (rs1_of word) (rs2_of word) }
+fn alternate(word: u32) -> Option<Instr>
+    ensures { result ≡ alternate_row (funct3_of word) (rd_of word) (rs1_of word) (rs2_of word) }
 {
     let rd = rd(word);
     let rs1 = rs1(word);
@@ -240,6 +252,7 @@ fn other(word: u32) -> Option<Instr>
     }
 }
 
+/// An instruction of the opcode MISC-MEM.
 #[inline]
 fn fence(word: u32) -> Option<Instr>
     ensures { result ≡ fence_row (funct3_of word) (rd_of word) (rs1_of word) (funct12_of word) }
@@ -253,6 +266,7 @@ fn fence(word: u32) -> Option<Instr>
     }
 }
 
+/// An instruction of the opcode SYSTEM.
 #[inline]
 fn system(word: u32) -> Option<Instr>
     ensures { result ≡ system_row word }

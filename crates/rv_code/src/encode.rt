@@ -5,6 +5,7 @@ ghost use Rattle.rv_code.specs.Code.{Fits, word_of, instruction_of};
 
 use crate::fields::{bit, bits};
 use crate::instr::Instr;
+use crate::opcodes::{AUIPC, BRANCH, JAL, JALR, LOAD, LUI, MISC_MEM, OP, OP_IMM, STORE};
 use bb_words::word::Word;
 
 /// The word of an instruction whose registers are below 32 and whose immediate fits.
@@ -24,72 +25,72 @@ fn instruction_word(instr: Instr) -> u32
     ensures { result ≡ word_of instr }
 {
     match instr {
-        Instr::Lui { rd, imm } => u_word(imm, rd, 0b011_0111),
-        Instr::Auipc { rd, imm } => u_word(imm, rd, 0b001_0111),
-        Instr::Jal { rd, imm } => j_word(imm, rd, 0b110_1111),
-        Instr::Jalr { rd, rs1, imm } => i_word(imm, rs1, 0b000, rd, 0b110_0111),
-        Instr::Beq { rs1, rs2, imm } => b_word(imm, rs2, rs1, 0b000, 0b110_0011),
-        Instr::Bne { rs1, rs2, imm } => b_word(imm, rs2, rs1, 0b001, 0b110_0011),
-        Instr::Blt { rs1, rs2, imm } => b_word(imm, rs2, rs1, 0b100, 0b110_0011),
-        Instr::Bge { rs1, rs2, imm } => b_word(imm, rs2, rs1, 0b101, 0b110_0011),
-        Instr::Bltu { rs1, rs2, imm } => b_word(imm, rs2, rs1, 0b110, 0b110_0011),
-        Instr::Bgeu { rs1, rs2, imm } => b_word(imm, rs2, rs1, 0b111, 0b110_0011),
-        Instr::Lb { rd, rs1, imm } => i_word(imm, rs1, 0b000, rd, 0b000_0011),
-        Instr::Lh { rd, rs1, imm } => i_word(imm, rs1, 0b001, rd, 0b000_0011),
-        Instr::Lw { rd, rs1, imm } => i_word(imm, rs1, 0b010, rd, 0b000_0011),
-        Instr::Lbu { rd, rs1, imm } => i_word(imm, rs1, 0b100, rd, 0b000_0011),
-        Instr::Lhu { rd, rs1, imm } => i_word(imm, rs1, 0b101, rd, 0b000_0011),
-        Instr::Sb { rs1, rs2, imm } => s_word(imm, rs2, rs1, 0b000, 0b010_0011),
-        Instr::Sh { rs1, rs2, imm } => s_word(imm, rs2, rs1, 0b001, 0b010_0011),
-        Instr::Sw { rs1, rs2, imm } => s_word(imm, rs2, rs1, 0b010, 0b010_0011),
-        Instr::Addi { rd, rs1, imm } => i_word(imm, rs1, 0b000, rd, 0b001_0011),
-        Instr::Slti { rd, rs1, imm } => i_word(imm, rs1, 0b010, rd, 0b001_0011),
-        Instr::Sltiu { rd, rs1, imm } => i_word(imm, rs1, 0b011, rd, 0b001_0011),
-        Instr::Xori { rd, rs1, imm } => i_word(imm, rs1, 0b100, rd, 0b001_0011),
-        Instr::Ori { rd, rs1, imm } => i_word(imm, rs1, 0b110, rd, 0b001_0011),
-        Instr::Andi { rd, rs1, imm } => i_word(imm, rs1, 0b111, rd, 0b001_0011),
-        Instr::Slli { rd, rs1, imm } => r_word(0b000_0000, imm, rs1, 0b001, rd, 0b001_0011),
-        Instr::Srli { rd, rs1, imm } => r_word(0b000_0000, imm, rs1, 0b101, rd, 0b001_0011),
-        Instr::Srai { rd, rs1, imm } => r_word(0b010_0000, imm, rs1, 0b101, rd, 0b001_0011),
-        Instr::Add { rd, rs1, rs2 } => r_word(0b000_0000, rs2 as u32, rs1, 0b000, rd, 0b011_0011),
-        Instr::Sub { rd, rs1, rs2 } => r_word(0b010_0000, rs2 as u32, rs1, 0b000, rd, 0b011_0011),
-        Instr::Sll { rd, rs1, rs2 } => r_word(0b000_0000, rs2 as u32, rs1, 0b001, rd, 0b011_0011),
-        Instr::Slt { rd, rs1, rs2 } => r_word(0b000_0000, rs2 as u32, rs1, 0b010, rd, 0b011_0011),
-        Instr::Sltu { rd, rs1, rs2 } => r_word(0b000_0000, rs2 as u32, rs1, 0b011, rd, 0b011_0011),
-        Instr::Xor { rd, rs1, rs2 } => r_word(0b000_0000, rs2 as u32, rs1, 0b100, rd, 0b011_0011),
-        Instr::Srl { rd, rs1, rs2 } => r_word(0b000_0000, rs2 as u32, rs1, 0b101, rd, 0b011_0011),
-        Instr::Sra { rd, rs1, rs2 } => r_word(0b010_0000, rs2 as u32, rs1, 0b101, rd, 0b011_0011),
-        Instr::Or { rd, rs1, rs2 } => r_word(0b000_0000, rs2 as u32, rs1, 0b110, rd, 0b011_0011),
-        Instr::And { rd, rs1, rs2 } => r_word(0b000_0000, rs2 as u32, rs1, 0b111, rd, 0b011_0011),
-        Instr::Mul { rd, rs1, rs2 } => r_word(0b000_0001, rs2 as u32, rs1, 0b000, rd, 0b011_0011),
-        Instr::Mulh { rd, rs1, rs2 } => r_word(0b000_0001, rs2 as u32, rs1, 0b001, rd, 0b011_0011),
-        Instr::Mulhsu { rd, rs1, rs2 } => r_word(
-            0b000_0001, rs2 as u32, rs1, 0b010, rd, 0b011_0011,
-        ),
-        Instr::Mulhu { rd, rs1, rs2 } => r_word(0b000_0001, rs2 as u32, rs1, 0b011, rd, 0b011_0011),
-        Instr::Div { rd, rs1, rs2 } => r_word(0b000_0001, rs2 as u32, rs1, 0b100, rd, 0b011_0011),
-        Instr::Divu { rd, rs1, rs2 } => r_word(0b000_0001, rs2 as u32, rs1, 0b101, rd, 0b011_0011),
-        Instr::Rem { rd, rs1, rs2 } => r_word(0b000_0001, rs2 as u32, rs1, 0b110, rd, 0b011_0011),
-        Instr::Remu { rd, rs1, rs2 } => r_word(0b000_0001, rs2 as u32, rs1, 0b111, rd, 0b011_0011),
-        Instr::Fence { rd, rs1, imm } => plain_word(imm, rs1, 0b000, rd, 0b000_1111),
+        Instr::Lui { rd, imm } => u_word(imm, rd, LUI),
+        Instr::Auipc { rd, imm } => u_word(imm, rd, AUIPC),
+        Instr::Jal { rd, imm } => j_word(imm, rd, JAL),
+        Instr::Jalr { rd, rs1, imm } => i_word(imm, rs1, 0b000, rd, JALR),
+        Instr::Beq { rs1, rs2, imm } => b_word(imm, rs2, rs1, 0b000, BRANCH),
+        Instr::Bne { rs1, rs2, imm } => b_word(imm, rs2, rs1, 0b001, BRANCH),
+        Instr::Blt { rs1, rs2, imm } => b_word(imm, rs2, rs1, 0b100, BRANCH),
+        Instr::Bge { rs1, rs2, imm } => b_word(imm, rs2, rs1, 0b101, BRANCH),
+        Instr::Bltu { rs1, rs2, imm } => b_word(imm, rs2, rs1, 0b110, BRANCH),
+        Instr::Bgeu { rs1, rs2, imm } => b_word(imm, rs2, rs1, 0b111, BRANCH),
+        Instr::Lb { rd, rs1, imm } => i_word(imm, rs1, 0b000, rd, LOAD),
+        Instr::Lh { rd, rs1, imm } => i_word(imm, rs1, 0b001, rd, LOAD),
+        Instr::Lw { rd, rs1, imm } => i_word(imm, rs1, 0b010, rd, LOAD),
+        Instr::Lbu { rd, rs1, imm } => i_word(imm, rs1, 0b100, rd, LOAD),
+        Instr::Lhu { rd, rs1, imm } => i_word(imm, rs1, 0b101, rd, LOAD),
+        Instr::Sb { rs1, rs2, imm } => s_word(imm, rs2, rs1, 0b000, STORE),
+        Instr::Sh { rs1, rs2, imm } => s_word(imm, rs2, rs1, 0b001, STORE),
+        Instr::Sw { rs1, rs2, imm } => s_word(imm, rs2, rs1, 0b010, STORE),
+        Instr::Addi { rd, rs1, imm } => i_word(imm, rs1, 0b000, rd, OP_IMM),
+        Instr::Slti { rd, rs1, imm } => i_word(imm, rs1, 0b010, rd, OP_IMM),
+        Instr::Sltiu { rd, rs1, imm } => i_word(imm, rs1, 0b011, rd, OP_IMM),
+        Instr::Xori { rd, rs1, imm } => i_word(imm, rs1, 0b100, rd, OP_IMM),
+        Instr::Ori { rd, rs1, imm } => i_word(imm, rs1, 0b110, rd, OP_IMM),
+        Instr::Andi { rd, rs1, imm } => i_word(imm, rs1, 0b111, rd, OP_IMM),
+        Instr::Slli { rd, rs1, imm } => r_word(0b000_0000, imm as u8, rs1, 0b001, rd, OP_IMM),
+        Instr::Srli { rd, rs1, imm } => r_word(0b000_0000, imm as u8, rs1, 0b101, rd, OP_IMM),
+        Instr::Srai { rd, rs1, imm } => r_word(0b010_0000, imm as u8, rs1, 0b101, rd, OP_IMM),
+        Instr::Add { rd, rs1, rs2 } => r_word(0b000_0000, rs2, rs1, 0b000, rd, OP),
+        Instr::Sub { rd, rs1, rs2 } => r_word(0b010_0000, rs2, rs1, 0b000, rd, OP),
+        Instr::Sll { rd, rs1, rs2 } => r_word(0b000_0000, rs2, rs1, 0b001, rd, OP),
+        Instr::Slt { rd, rs1, rs2 } => r_word(0b000_0000, rs2, rs1, 0b010, rd, OP),
+        Instr::Sltu { rd, rs1, rs2 } => r_word(0b000_0000, rs2, rs1, 0b011, rd, OP),
+        Instr::Xor { rd, rs1, rs2 } => r_word(0b000_0000, rs2, rs1, 0b100, rd, OP),
+        Instr::Srl { rd, rs1, rs2 } => r_word(0b000_0000, rs2, rs1, 0b101, rd, OP),
+        Instr::Sra { rd, rs1, rs2 } => r_word(0b010_0000, rs2, rs1, 0b101, rd, OP),
+        Instr::Or { rd, rs1, rs2 } => r_word(0b000_0000, rs2, rs1, 0b110, rd, OP),
+        Instr::And { rd, rs1, rs2 } => r_word(0b000_0000, rs2, rs1, 0b111, rd, OP),
+        Instr::Mul { rd, rs1, rs2 } => r_word(0b000_0001, rs2, rs1, 0b000, rd, OP),
+        Instr::Mulh { rd, rs1, rs2 } => r_word(0b000_0001, rs2, rs1, 0b001, rd, OP),
+        Instr::Mulhsu { rd, rs1, rs2 } => r_word(0b000_0001, rs2, rs1, 0b010, rd, OP),
+        Instr::Mulhu { rd, rs1, rs2 } => r_word(0b000_0001, rs2, rs1, 0b011, rd, OP),
+        Instr::Div { rd, rs1, rs2 } => r_word(0b000_0001, rs2, rs1, 0b100, rd, OP),
+        Instr::Divu { rd, rs1, rs2 } => r_word(0b000_0001, rs2, rs1, 0b101, rd, OP),
+        Instr::Rem { rd, rs1, rs2 } => r_word(0b000_0001, rs2, rs1, 0b110, rd, OP),
+        Instr::Remu { rd, rs1, rs2 } => r_word(0b000_0001, rs2, rs1, 0b111, rd, OP),
+        Instr::Fence { rd, rs1, imm } => plain_word(imm, rs1, 0b000, rd, MISC_MEM),
         Instr::Ecall => 0x0000_0073,
         Instr::Ebreak => 0x0010_0073,
     }
 }
 
-fn r_word(funct7: u32, rs2: u32, rs1: u8, funct3: u32, rd: u8, opcode: u32) -> u32
+/// The word of an instruction of the R format.
+fn r_word(funct7: u32, rs2: u8, rs1: u8, funct3: u32, rd: u8, opcode: u32) -> u32
     requires funct { (funct7 < 128) × (funct3 < 8) × (opcode < 128) }
     requires registers { (rs2 < 32) × (rs1 < 32) × (rd < 32) }
     ensures { result ≡ format_word (RType funct7 rs2 rs1 funct3 rd opcode) }
 {
     (funct7 << 25)
-        + (rs2 << 20)
+        + ((rs2 as u32) << 20)
         + ((rs1 as u32) << 15)
         + (funct3 << 12)
         + ((rd as u32) << 7)
         + opcode
 }
 
+/// The word of an instruction whose highest 12 bits are no number.
 fn plain_word(funct12: u32, rs1: u8, funct3: u32, rd: u8, opcode: u32) -> u32
     requires funct { (funct12 < 4096) × (funct3 < 8) × (opcode < 128) }
     requires registers { (rs1 < 32) × (rd < 32) }
@@ -98,6 +99,7 @@ fn plain_word(funct12: u32, rs1: u8, funct3: u32, rd: u8, opcode: u32) -> u32
     (funct12 << 20) + ((rs1 as u32) << 15) + (funct3 << 12) + ((rd as u32) << 7) + opcode
 }
 
+/// The word of an instruction of the I format.
 fn i_word(imm: u32, rs1: u8, funct3: u32, rd: u8, opcode: u32) -> u32
     requires funct { (funct3 < 8) × (opcode < 128) }
     requires registers { (rs1 < 32) × (rd < 32) }
@@ -106,21 +108,17 @@ fn i_word(imm: u32, rs1: u8, funct3: u32, rd: u8, opcode: u32) -> u32
     plain_word(bits(imm, 11, 0), rs1, funct3, rd, opcode)
 }
 
+/// The word of an instruction of the S format.
 fn s_word(imm: u32, rs2: u8, rs1: u8, funct3: u32, opcode: u32) -> u32
     requires funct { (funct3 < 8) × (opcode < 128) }
     requires registers { (rs2 < 32) × (rs1 < 32) }
     ensures { result ≡ format_word (SType imm rs2 rs1 funct3 opcode) }
 {
-    r_word(
-        bits(imm, 11, 5),
-        rs2 as u32,
-        rs1,
-        funct3,
-        bits(imm, 4, 0) as u8,
-        opcode,
-    )
+    let low = bits(imm, 4, 0) as u8;
+    r_word(bits(imm, 11, 5), rs2, rs1, funct3, low, opcode)
 }
 
+/// The word of an instruction of the B format.
 fn b_word(imm: u32, rs2: u8, rs1: u8, funct3: u32, opcode: u32) -> u32
     requires funct { (funct3 < 8) × (opcode < 128) }
     requires registers { (rs2 < 32) × (rs1 < 32) }
@@ -128,9 +126,10 @@ fn b_word(imm: u32, rs2: u8, rs1: u8, funct3: u32, opcode: u32) -> u32
 {
     let high = (bit(imm, 12) << 6) + bits(imm, 10, 5);
     let low = (bits(imm, 4, 1) << 1) + bit(imm, 11);
-    r_word(high, rs2 as u32, rs1, funct3, low as u8, opcode)
+    r_word(high, rs2, rs1, funct3, low as u8, opcode)
 }
 
+/// The word of an instruction of the U format.
 fn u_word(imm: u32, rd: u8, opcode: u32) -> u32
     requires funct { opcode < 128 }
     requires registers { rd < 32 }
@@ -139,6 +138,7 @@ fn u_word(imm: u32, rd: u8, opcode: u32) -> u32
     (bits(imm, 31, 12) << 12) + ((rd as u32) << 7) + opcode
 }
 
+/// The word of an instruction of the J format.
 fn j_word(imm: u32, rd: u8, opcode: u32) -> u32
     requires funct { opcode < 128 }
     requires registers { rd < 32 }

@@ -5,3 +5,4 @@ pub mod decode;
 pub mod encode;
 mod fields;
 pub mod instr;
+mod opcodes;
