@@ -1,9 +1,9 @@
 -- An instruction's word is read as that instruction.
-use Rattle.std.proofs.Common.{◌≡◌, ℕ, ◌%◌, ◌^◌, ◌<◌, arith, refl, ap, ◌∙◌, Option, Some}
+use Rattle.std.proofs.Common.{◌≡◌, ℕ, ◌<◌, arith, refl, ap, ◌∙◌, Option, Some}
 use Rattle.rv_code.specs.declared.instr.Instr.{Instr}
 use Rattle.rv_code.specs.declared.instr.Instr.TheVariants.{Lui, Auipc, Jal, Jalr, Beq, Bne, Blt, Bge, Bltu, Bgeu, Lb, Lh, Lw, Lbu, Lhu, Sb, Sh, Sw, Addi, Slti, Sltiu, Xori, Ori, Andi, Slli, Srli, Srai, Add, Sub, Sll, Slt, Sltu, Xor, Srl, Sra, Or, And, Mul, Mulh, Mulhsu, Mulhu, Div, Divu, Rem, Remu, Fence, Ecall, Ebreak}
-use Rattle.rv_code.specs.Bits.{bits, IsSigned}
-use Rattle.rv_code.specs.Formats.{RType, IType, SType, BType, UType, JType, PlainType, format_word, FitsFormat, opcode_of, rd_of, funct3_of, rs1_of, rs2_of, funct7_of, funct12_of, i_immediate, s_immediate, b_immediate, u_immediate, j_immediate}
+use Rattle.rv_code.specs.Bits.{bits}
+use Rattle.rv_code.specs.Formats.{RType, IType, SType, BType, UType, JType, PlainType, format_word, FitsFormat, opcode_of, rd_of, funct3_of, rs1_of, rs2_of, funct7_of, i_immediate}
 use Rattle.rv_code.specs.Code.{word_of, Fits, jalr_row, branch_row, load_row, store_row, op_imm_row, op_row, fence_row, row_of, instruction_of}
 use Rattle.rv_code.proofs.Words.{r_fields, plain_fields, i_immediate_is, s_fields, b_fields, u_fields, j_fields}
 

@@ -1,10 +1,10 @@
 -- Each word that is read is the word of what is read.
-use Rattle.std.proofs.Common.{◌≡◌, ℕ, ◌%◌, ◌^◌, ◌<◌, arith, refl, ap, ◌∙◌, Bool, true, false, cond, Option, Some, None, eqb}
+use Rattle.std.proofs.Common.{◌≡◌, ℕ, ◌^◌, ◌<◌, arith, refl, Bool, true, false, cond, Option, Some, None}
 use Rattle.std.proofs.lemmas.Bool.{eqb-true}
 use Rattle.std.specs.Prelude.{IfSome, ◌==◌, if◌then◌else◌}
 use Rattle.rv_code.specs.declared.instr.Instr.{Instr}
-use Rattle.rv_code.specs.Formats.{opcode_of, rd_of, funct3_of, rs1_of, rs2_of, funct7_of, funct12_of, i_immediate, s_immediate, b_immediate, u_immediate, j_immediate}
-use Rattle.rv_code.specs.Code.{word_of, Fits, Encodes, jalr_row, branch_row, load_row, store_row, left_shift_row, right_shift_row, op_imm_row, base_row, extension_m_row, alternate_row, op_row, fence_row, system_row, row_of, instruction_of}
+use Rattle.rv_code.specs.Formats.{opcode_of, rd_of, funct3_of, rs1_of, rs2_of, funct7_of, funct12_of, i_immediate, s_immediate, b_immediate}
+use Rattle.rv_code.specs.Code.{Encodes, jalr_row, branch_row, load_row, store_row, left_shift_row, right_shift_row, op_imm_row, base_row, extension_m_row, alternate_row, op_row, fence_row, system_row, row_of, instruction_of}
 use Rattle.rv_code.proofs.Words.{r_makes, plain_makes, i_makes, s_makes, b_makes, u_makes, j_makes}
 
 -- what is read of a word, if anything is, has that word

@@ -1,5 +1,5 @@
 -- Bits of numbers, and sign extension to words of 32 bits.
-use Rattle.std.specs.Prelude.{ℕ, ◌+◌, ◌-◌, ◌*◌, ◌/◌, ◌%◌, ◌^◌, ◌<◌, if◌then◌else◌, nat_lt}
+use Rattle.std.specs.Prelude.{ℕ, ◌+◌, ◌-◌, ◌/◌, ◌%◌, ◌^◌, ◌<◌, if◌then◌else◌, nat_lt}
 
 -- the bits of n from `high` down to `low`, as a number
 abbrev pub bits : (n high low : ℕ) → ℕ

@@ -2,8 +2,9 @@
 
 /// An instruction of RV32I or of its extension M, by the names of the RISC-V unprivileged manual.
 ///
-/// `rd`, `rs1` and `rs2` are numbers of registers, below 32. `imm` is the word that the instruction
-/// adds, loads, stores at or compares with, already sign-extended: -4 is `0xFFFF_FFFC`. What is
+/// `rd`, `rs1` and `rs2` are numbers of registers, below 32. `imm` is a word that is sign-extended
+/// already, so -4 is `0xFFFF_FFFC`: it is added to `rs1` by an access or a jump to a register, to
+/// the address of the instruction by another jump or a branch, or is the second operand. What is
 /// other than that is said at the variant.
 #[derive(Clone, Copy)]
 pub enum Instr {

@@ -6,3 +6,5 @@ pub mod encode;
 mod fields;
 pub mod instr;
 mod opcodes;
+#[cfg(test)]
+mod tests;
