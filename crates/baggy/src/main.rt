@@ -7,10 +7,9 @@ mod streams;
 use baggy_tool::run::baggy_run;
 use files::DirShelf;
 use std::alloc::Global;
-use std::env;
-use std::io;
 use std::process::ExitCode;
 use std::rt::Env;
+use std::{env, io};
 use streams::{StderrSink, StdinSource, StdoutSink};
 
 /// The status where the words can't be read: memory was wanting, or a word is no UTF-8.

@@ -31,10 +31,11 @@ put_none rest e now then p written h = subst (λ (o : Option (List ℕ)). Puts o
 
 -- so many bytes more were written
 pub partly_more : (text rest : List ℕ) (count : ℕ) (before now then : Option (List ℕ)) → IsPartly text rest before now → Puts {E = SinkFailed} now then rest (Ok count) → IsPartly text (drop count rest) before then
-partly_more text rest count before now then p q =
-    (p.0 ++ take count rest,
-     p.1 ∙ ap (λ (l : List ℕ). p.0 ++ l) (sym (take_drop count rest)) ∙ sym (append_assoc p.0 (take count rest) (drop count rest)),
-     appended_then p.0 (take count rest) before now then p.2 (put_some rest count now then q))
+partly_more text rest count before now then p q = (
+  p.0 ++ take count rest,
+  p.1 ∙ ap (λ (l : List ℕ). p.0 ++ l) (sym (take_drop count rest)) ∙ sym (append_assoc p.0 (take count rest) (drop count rest)),
+  appended_then p.0 (take count rest) before now then p.2 (put_some rest count now then q),
+)
 
 pub partly_all : (text rest : List ℕ) (before now : Option (List ℕ)) → rest ≡ [] → IsPartly text rest before now → IsAppended text before now
 partly_all text rest before now e p =

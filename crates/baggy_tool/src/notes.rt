@@ -72,11 +72,7 @@ fn note_lex_error<E: Sink>(notes: &mut E, error: &LexError) -> Result<(), SinkFa
     ensures noted { Noted result (lex_line error.now) (E.written notes.old) (E.written notes.new) }
     ensures cause { HasCause (E.faults notes.old) (E.faults notes.new) result }
 {
-    put_numbered(
-        notes,
-        b"baggy: refused TooLong length ",
-        too_long(error),
-    )
+    put_numbered(notes, b"baggy: refused TooLong length ", too_long(error))
 }
 
 fn too_long(error: &LexError) -> u32

@@ -17,7 +17,6 @@ use rv_image::image::Image;
 use rv_machine::machine::Machine;
 use std::alloc::Global;
 
-
 // What a call came to, but for the notes.
 #[derive(Drop)]
 struct Outcome {
