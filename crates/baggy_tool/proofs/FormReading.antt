@@ -8,24 +8,9 @@ use Rattle.std.proofs.lemmas.Bool.Decides.{nat_tests}
 use Rattle.std.proofs.lemmas.List.{reverse-append, length-reverse}
 use Rattle.baggy_tool.specs.declared.form.Summand.{Summand}
 use Rattle.baggy_tool.specs.Form.{number_from, signs_product, head_words, HasNoForm}
-use Rattle.baggy_tool.specs.Reading.{◌>>=◌, without_blanks, strip, ended, word_at, words_at, is_tail, form_at, small_number, number_at, sign_at, innermost, closed, with_front, end_at, more_at, signed, terms_at}
+use Rattle.baggy_tool.specs.Reading.{◌>>=◌, without_blanks, strip, ended, word_at, words_at, is_tail, form_at, number_at, sign_at, innermost, closed, with_front, end_at, more_at, signed, terms_at}
 use Rattle.baggy_tool.proofs.FormLemmas.{form_none}
 use Rattle.baggy_tool.proofs.FormSteps.{behind_at, front_append, closed_more, terms_full, terms_open, terms_number, terms_none}
-
--- more digits make no smaller number
-number_grows : (n : ℕ) (ds : List ℕ) → n ≤ number_from n ds
-number_grows n [] = omega arith
-number_grows n (d ∷ ds) = let h = number_grows (10 * n + (d - 48)) ds in omega arith
-
-number_more : (n i : ℕ) (ds : List ℕ) → i < length ds → number_from n (drop i ds) ≡ number_from (10 * n + (get_or ds i 0 - 48)) (drop (i + 1) ds)
-number_more n i ds h = rw (add-one, drop-cons ds i 0)
-
-pub small_none : (n i : ℕ) (ds : List ℕ) → i < length ds → number_from n (drop i ds) ≡ number_from 0 ds → 2147483647 < 10 * n + (get_or ds i 0 - 48) → None ≡ small_number ds
-small_none n i ds h e l =
-    let m = number_more n i ds h in
-    let g = number_grows (10 * n + (get_or ds i 0 - 48)) (drop (i + 1) ds) in
-    let big : 2147483647 < number_from 0 ds = omega arith in
-    grind (arith, nat_tests)
 
 strip_is : (w t : List ℕ) → strip w t ≡ cond (pointwise nat_eq (take (length w) t) w) (Some (drop (length w) t)) None
 strip_is [] t = refl

@@ -4,8 +4,9 @@ use Rattle.std.specs.Prelude.{codes, ◌&&◌, ◌||◌}
 use Rattle.std.specs.List.{list_all}
 use Rattle.std.specs.Char.{is_ascii_digit, is_ascii_alphanumeric}
 use Rattle.std.proofs.lemmas.Bool.Decides.{nat_tests}
+use Rattle.baggy_tool.specs.Decimal.{number_within}
 use Rattle.baggy_tool.specs.Form.{is_blank, begins, number_of, is_canonical, IsNumeral, WordAt, Spells, sign_word}
-use Rattle.baggy_tool.specs.Reading.{◌>>=◌, either, without_blanks, strip, ended, word_at, words_at, digits_of, after_digits, small_number, numeral, number_at, sign_at}
+use Rattle.baggy_tool.specs.Reading.{◌>>=◌, either, without_blanks, strip, ended, word_at, words_at, digits_of, after_digits, numeral, number_at, sign_at}
 
 pub bind_some : {A B : Type 0} (o : Option A) (f : A → Option B) (y : B) → (o >>= f) ≡ Some y → (x : A) × (o ≡ Some x) × (f x ≡ Some y)
 bind_some None f y h = absurd (cc)
@@ -186,7 +187,7 @@ digits_again (d ∷ ds) rest h e =
 
 numeral_found : (digits : List ℕ) (n : ℕ) → list_all is_ascii_digit digits ≡ true → numeral digits ≡ Some n → IsNumeral digits × (n ≡ number_of digits)
 numeral_found digits n d h =
-    let g = guard_true (is_canonical digits) (small_number digits) n h in
+    let g = guard_true (is_canonical digits) (number_within 2147483647 digits) n h in
     let s = guard_true (leb (number_of digits) 2147483647) (Some (number_of digits)) n g.1 in
     let small : number_of digits ≤ 2147483647 = grind (arith, nat_tests) in
     (record { decimal = d; canonical = g.0; small = small }, sym (same_some (number_of digits) n s.1))
@@ -195,7 +196,7 @@ numeral_again : (digits : List ℕ) → IsNumeral digits → numeral digits ≡ 
 numeral_again digits h =
     let small = h.small in
     let l : leb (number_of digits) 2147483647 ≡ true = grind (arith, nat_tests) in
-    ap (λ b. cond b (small_number digits) None) h.canonical ∙ ap (λ b. cond b (Some (number_of digits)) None) l
+    ap (λ b. cond b (number_within 2147483647 digits) None) h.canonical ∙ ap (λ b. cond b (Some (number_of digits)) None) l
 
 pub number_found : (text : List ℕ) (n : ℕ) (rest : List ℕ) → number_at text ≡ Some (n, rest) → (digits : List ℕ) × WordAt digits text rest × IsNumeral digits × (n ≡ number_of digits)
 unfolding number_at

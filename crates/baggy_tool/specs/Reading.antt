@@ -1,8 +1,9 @@
 -- Reading a file of the form, from left to right.
-use Rattle.std.specs.Prelude.{ℕ, zero, suc, ◌&&◌, nat_le, if◌then◌else◌, Bool, true, false, List, [], ◌∷◌, ◌++◌, codes, Option, Some, None, ◌==◌}
+use Rattle.std.specs.Prelude.{ℕ, zero, suc, ◌&&◌, if◌then◌else◌, Bool, true, false, List, [], ◌∷◌, ◌++◌, codes, Option, Some, None, ◌==◌}
 use Rattle.std.specs.Char.{is_ascii_digit, is_ascii_alphanumeric}
 use Rattle.std.specs.List.{list_all}
 use Rattle.baggy_tool.specs.declared.form.Summand.{Summand}
+use Rattle.baggy_tool.specs.Decimal.{number_within}
 use Rattle.baggy_tool.specs.Form.{is_blank, begins, number_of, is_canonical, signs_product, head_words, tail_words}
 
 infixl 10 ◌>>=◌
@@ -47,12 +48,8 @@ abbrev pub after_digits : List ℕ → List ℕ
 after_digits [] = []
 after_digits (c ∷ cs) = if is_ascii_digit c then after_digits cs else c ∷ cs
 
--- the number of the digits, if it is canonical and small
-abbrev pub small_number : List ℕ → Option ℕ
-small_number digits = if nat_le (number_of digits) 2147483647 then Some (number_of digits) else None
-
 abbrev pub numeral : List ℕ → Option ℕ
-numeral digits = if is_canonical digits then small_number digits else None
+numeral digits = if is_canonical digits then number_within 2147483647 digits else None
 
 -- the number that comes next, and what follows it
 unfoldable pub number_at : List ℕ → Option (ℕ × List ℕ)

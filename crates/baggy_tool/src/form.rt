@@ -8,9 +8,11 @@ ghost use Rattle.std.specs.Prelude.{◌≡◌, ◌+◌, ◌≤◌, ◌<◌, ℕ,
 ghost use Rattle.std.specs.List.{list_all};
 ghost use Rattle.std.specs.Char.{is_ascii_digit, is_ascii_alphanumeric};
 ghost use Rattle.std.specs.Option.{option_map, option_copied};
+ghost use Rattle.baggy_tool.specs.Decimal.{number_within};
 ghost use Rattle.baggy_tool.specs.Form.{is_blank, begins, is_canonical, head_words, signs_product, HasSummands, HasNoForm};
-ghost use Rattle.baggy_tool.specs.Reading.{without_blanks, word_at, words_at, digits_of, after_digits, small_number, ended, number_at, sign_at, innermost, closed, with_front, terms_at, is_tail, form_at};
+ghost use Rattle.baggy_tool.specs.Reading.{without_blanks, word_at, words_at, digits_of, after_digits, ended, number_at, sign_at, innermost, closed, with_front, terms_at, is_tail, form_at};
 
+use crate::decimal::number_within;
 use std::alloc::{AllocError, Global};
 
 /// How many numbers and opening brackets a sum may have.
@@ -183,16 +185,10 @@ fn digit_count(text: &[u8]) -> usize
 // The value of the digits, if an `int` can hold it.
 fn value(digits: &[u8]) -> Option<u32>
     requires { list_all is_ascii_digit digits.now ≡ true }
-    ensures { result ≡ small_number digits.now }
+    ensures { result ≡ number_within 2147483647 digits.now }
 {
-    let mut n = 0u64;
-    for d in digits {
-        n = 10 * n + u64::from(*d - b'0');
-        if n > MAX_NUMBER {
-            return None;
-        }
-    }
-    Some(n as u32)
+    let value = number_within(MAX_NUMBER, digits)?;
+    Some(value as u32)
 }
 
 // What stands behind the word that comes next.

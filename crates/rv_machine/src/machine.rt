@@ -207,7 +207,9 @@ mod tests {
     use std::test::Fail;
 
     // getchar, putchar, and exit with what putchar left in x10.
-    fn echo(alloc: Global) -> Result<Image, AllocError> {
+    fn echo(alloc: Global) -> Result<Image, AllocError>
+        ensures { IfOk result (λ image. IsImage image) }
+    {
         let words = [
             0x0020_0893u32,
             0x0000_0073,
