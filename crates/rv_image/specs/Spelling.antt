@@ -9,7 +9,7 @@ abbrev pub magic : List ℕ
 magic = 66 ∷ 65 ∷ 71 ∷ 89 ∷ []
 
 -- a number has four bytes, the lowest first
-abbrev pub number : ℕ → List ℕ
+unfoldable pub number : ℕ → List ℕ
 number n = to_le_bytes w32 n
 
 -- bytes behind their count
@@ -24,7 +24,7 @@ framed frames = number (length frames) ++ flat_map counted frames
 abbrev pub worded : List ℕ → List ℕ
 worded words = number (4 * length words) ++ flat_map number words
 
-abbrev pub spelling : Image → List ℕ
+unfoldable pub spelling : Image → List ℕ
 spelling image =
     magic ++ number image.version ++ number image.entry ++ counted image.globals ++ framed image.frames ++ counted image.initial ++ worded image.text
 

@@ -1,6 +1,8 @@
 //! Reading an image from its bytes.
 ghost use Rattle.std.specs.Prelude.{◌≡◌, ℕ, ◌+◌, ◌*◌, ◌^◌, ◌<◌, ◌≤◌, length, IfOk, IfErr, Err, Ok};
-ghost use Rattle.rv_image.specs.Rules.{total_size};
+ghost use Rattle.rv_image.specs.declared.image.Image.{Image};
+ghost use Rattle.rv_image.specs.Rules.{IsImage, total_size};
+ghost use Rattle.rv_image.specs.Spelling.{AreWords, spelling};
 ghost use Rattle.rv_image.specs.Reading.{Gives, GivesAs, rule, field_at, number_at, entry_of, exponent_at, exponents_at, globals_at, frame_at, frames_from, frames_at, initial_at, ends_nonzero, words_of, text_at, image_of};
 
 use crate::error::ImageError;
@@ -14,6 +16,11 @@ const MAGIC: u32 = 0x5947_4142;
 /// The image that the bytes spell, or the first rule that they break.
 pub fn read(alloc: Global, bytes: &[u8]) -> Result<Image, ImageError>
     requires { length bytes.now < 2 ^ 32 }
+    // What is read is spelled so.
+    ensures found { IfOk result (λ image. IsImage image × (bytes.now ≡ spelling image)) }
+    // What is spelled so is read, unless memory runs out.
+    ensures only { (image : Image) → IsImage image → AreWords image.text → bytes.now ≡ spelling image → Gives result (Ok image) }
+    // Else it is the first rule that is broken, in the order of the fields.
     ensures exact { Gives result (image_of bytes.now) }
 {
     whole(alloc, bytes)
