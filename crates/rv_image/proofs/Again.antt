@@ -130,7 +130,7 @@ text_again bytes at entry text rest some fits entered are s =
     let least : 4 ≤ 4 * length text = omega arith in
     let kept : is_text_size entry (4 * length text) ≡ true = grind (arith, nat_tests) in
     rw (number_again bytes at (4 * length text) (flat_map number text ++ rest) (omega arith) s', kept, field_again bytes (at + 4) (4 * length text) (flat_map number text) rest (length-words text) (after_number bytes at (4 * length text) (flat_map number text ++ rest) s'))
-      (ap (λ (t : List ℕ). Ok t) (words_again text are))
+    (ap (λ (t : List ℕ). Ok t) (words_again text are))
 
 after_worded : (bytes : List ℕ) (at : ℕ) (ws rest : List ℕ) → Stands bytes at (worded ws ++ rest) → Stands bytes (at + 4 + 4 * length ws) rest
 after_worded bytes at ws rest s =
@@ -150,8 +150,8 @@ image_again image rules are =
     let t5 = framed image.frames ++ t6 in
     let t4 = counted image.globals ++ t5 in
     let parts : bytes ≡ magic ++ (number 1 ++ (number image.entry ++ t4)) =
-        regrouped magic (number image.version) (number image.entry) (counted image.globals) (framed image.frames) (counted image.initial) (worded image.text)
-        ∙ ap (λ v. magic ++ (number v ++ (number image.entry ++ t4))) rules.version in
+    regrouped magic (number image.version) (number image.entry) (counted image.globals) (framed image.frames) (counted image.initial) (worded image.text)
+    ∙ ap (λ v. magic ++ (number v ++ (number image.entry ++ t4))) rules.version in
     let s0 : Stands bytes 0 (magic ++ (number 1 ++ (number image.entry ++ t4))) = record { within = omega arith; is = parts } in
     let s4 : Stands bytes 4 (number 1 ++ (number image.entry ++ t4)) = Stands-after bytes 0 4 magic (number 1 ++ (number image.entry ++ t4)) refl s0 in
     let s8 : Stands bytes 8 (number image.entry ++ t4) = after_number bytes 4 1 (number image.entry ++ t4) s4 in
@@ -168,4 +168,4 @@ image_again image rules are =
     let whole : length bytes ≡ at + 8 + length image.initial + 4 * length image.text = omega (arith, Stands-length bytes (at + 4 + length image.initial + 4 + 4 * length image.text) [] s8') in
     let ended : (length bytes == at + 8 + length image.initial + 4 * length image.text) ≡ true = grind (arith, nat_tests) in
     rw (entry, globals, frames.1, initial, text, ended)
-      (ap (λ v. Ok (let made : Image = record { version = v; entry = image.entry; globals = image.globals; frames = image.frames; initial = image.initial; text = image.text } in made)) (sym rules.version))
+    (ap (λ v. Ok (let made : Image = record { version = v; entry = image.entry; globals = image.globals; frames = image.frames; initial = image.initial; text = image.text } in made)) (sym rules.version))

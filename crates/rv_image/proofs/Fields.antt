@@ -65,7 +65,7 @@ field_takes bytes at len field e =
       within = within;
       is = is;
       len_is = ap length (sym is) ∙ length-take len (drop at bytes) ∙ omega (arith, length-drop at bytes);
-      took = record { parts = parts ∙ ap (λ (t : List ℕ). t ++ drop (at + len) bytes) is }
+      took = record { parts = parts ∙ ap (λ (t : List ℕ). t ++ drop (at + len) bytes) is };
     }
 
 pub number_is : (bytes : List ℕ) (n : ℕ) → IsBytes bytes → length bytes ≡ 4 → from_le_bytes w32 bytes ≡ n → (number n ≡ bytes) × (n < 2 ^ 32)
@@ -94,7 +94,7 @@ Stands-length bytes at rest s = omega (arith, s.within, length-drop at bytes, ap
 pub Stands-after : (bytes : List ℕ) (at after : ℕ) (text rest : List ℕ) → after ≡ at + length text → Stands bytes at (text ++ rest) → Stands bytes after rest
 Stands-after bytes at after text rest e s = record {
   within = omega (arith, Stands-length bytes at (text ++ rest) s, length-append text rest);
-  is = ap (λ n. drop n bytes) e ∙ sym (drop-drop (length text) at bytes) ∙ ap (drop (length text)) s.is ∙ drop_at text rest (length text) refl
+  is = ap (λ n. drop n bytes) e ∙ sym (drop-drop (length text) at bytes) ∙ ap (drop (length text)) s.is ∙ drop_at text rest (length text) refl;
 }
 
 pub field_again : (bytes : List ℕ) (at len : ℕ) (text rest : List ℕ) → length text ≡ len → Stands bytes at (text ++ rest) → field_at bytes at len ≡ Ok text

@@ -48,7 +48,7 @@ entry_takes bytes entry fits e =
       took = Took-then bytes 0 8 12 (magic ++ number 1) (number c.0) (Took-then bytes 0 4 8 magic (number 1) first second) tc;
       aligned = grind (arith, nat_tests);
       low = grind (arith, nat_tests);
-      high = grind (arith, nat_tests)
+      high = grind (arith, nat_tests);
     })
 
 -- ---- exponents
@@ -78,7 +78,7 @@ exponent_takes bytes at most room e eq =
       took = record { parts = drop_more bytes at 0 long };
       least = grind (arith, nat_tests);
       below = grind (arith, nat_tests);
-      within = grind (arith, nat_tests)
+      within = grind (arith, nat_tests);
     })
 
 exponents_take : (bytes : List ℕ) (n at most room : ℕ) (es : List ℕ) → exponents_at bytes n at most room ≡ Ok es → AreExponents bytes at most room n es
@@ -88,7 +88,7 @@ exponents_take bytes zero at most room es e =
       took = record { parts = ap (λ k. drop k bytes) (omega arith) };
       counted_is = refl;
       declining = tt;
-      within = omega arith
+      within = omega arith;
     })
 exponents_take bytes (suc n) at most room es e =
     let a = bind_ok (exponent_at bytes at most room) _ es e in
@@ -99,7 +99,7 @@ exponents_take bytes (suc n) at most room es e =
       took = Took-to bytes at (at + 1 + n) (at + suc n) (a.0 ∷ b.0) (omega arith) (Took-then bytes at (at + 1) (at + 1 + n) (a.0 ∷ []) b.0 first.took others.took);
       counted_is = ap suc others.counted_is;
       declining = (first.least, first.below, others.declining);
-      within = omega (arith, first.within, others.within)
+      within = omega (arith, first.within, others.within);
     })
 
 -- ---- exponents behind their count
@@ -124,7 +124,7 @@ counted_take bytes at limit most es d fits e =
       took = subst (λ k. Took bytes at (number k ++ es) (at + 4 + k)) (sym x.counted_is) together;
       few = omega (arith, x.counted_is);
       declining = x.declining;
-      within = x.within
+      within = x.within;
     }
 
 globals_take : (bytes : List ℕ) (at : ℕ) (es : List ℕ) → IsBytes bytes → globals_at bytes at ≡ Ok es → AreCounted bytes at 2097152 131072 es
@@ -157,7 +157,7 @@ frames_take bytes (suc n) at left x fits e =
       took = Took-then bytes at (at + 4 + length a.0) b.0.1 (counted a.0) (flat_map counted b.0.0) first.took others.took;
       number_is = ap suc others.number_is;
       are = (first.declining, first.within, others.are);
-      few = omega (arith, first.few, others.few)
+      few = omega (arith, first.few, others.few);
     })
 
 pub record AreFramed (bytes : List ℕ) (at : ℕ) (x : List (List ℕ) × ℕ) : Type 0 where
@@ -180,7 +180,7 @@ framed_take bytes at x fits e =
       took = subst (λ k. Took bytes at (number k ++ flat_map counted x.0) x.1) (sym f.number_is) together;
       few = omega (arith, f.number_is);
       are = f.are;
-      blocks = f.few
+      blocks = f.few;
     }
 
 -- ---- the initial bytes
@@ -210,7 +210,7 @@ initial_takes bytes at most initial fits e =
     subst (AreInitial bytes at most) (ok_is c.0 initial d.1) (record {
       took = subst (λ k. Took bytes at (number k ++ c.0) (at + 4 + k)) (sym f.len_is) together;
       fits = omega (arith, f.len_is);
-      ends = nonzero_end c.0 d.0
+      ends = nonzero_end c.0 d.0;
     })
 
 -- ---- the text
@@ -234,7 +234,7 @@ words_spelled (suc n) (a ∷ b ∷ c ∷ d ∷ bytes) fits e =
     record {
       spelled = ap (λ (t : List ℕ). t ++ flat_map number (words_of bytes)) first.0 ∙ ap (λ (t : List ℕ). word ++ t) others.spelled;
       number_is = ap suc others.number_is;
-      are = (first.1, others.are)
+      are = (first.1, others.are);
     }
 
 pub record IsText (bytes : List ℕ) (at entry : ℕ) (text : List ℕ) : Type 0 where
@@ -268,7 +268,7 @@ text_takes bytes at entry text fits e =
       some = omega (arith, size);
       fits = omega (arith, size);
       entered = omega (arith, size);
-      are = w.are
+      are = w.are;
     })
 
 -- ---- the image
@@ -302,7 +302,7 @@ image_takes bytes image fits e =
     let x5 = Took-then bytes 0 (c.0.1 + 4 + length d.0) end (magic ++ number 1 ++ number a.0 ++ counted b.0 ++ framed c.0.0 ++ counted d.0) (worded f.0) x4 text.took in
     let nothing : drop end bytes ≡ [] = nil_from_length (drop end bytes) (omega (arith, length-drop end bytes)) in
     let whole : bytes ≡ magic ++ number 1 ++ number a.0 ++ counted b.0 ++ framed c.0.0 ++ counted d.0 ++ worded f.0 =
-        x5.parts ∙ ap (λ (r : List ℕ). (magic ++ number 1 ++ number a.0 ++ counted b.0 ++ framed c.0.0 ++ counted d.0 ++ worded f.0) ++ r) nothing ∙ append-nil _ in
+    x5.parts ∙ ap (λ (r : List ℕ). (magic ++ number 1 ++ number a.0 ++ counted b.0 ++ framed c.0.0 ++ counted d.0 ++ worded f.0) ++ r) nothing ∙ append-nil _ in
     subst (IsFound bytes) (ok_is made image g.1) (record {
       rules = record {
         version = refl;
@@ -319,10 +319,10 @@ image_takes bytes image fits e =
         initial_ends = initial.ends;
         text_some = text.some;
         text_fits = text.fits;
-        entry_within = text.entered
+        entry_within = text.entered;
       };
       words = text.are;
-      spelled = whole
+      spelled = whole;
     })
 
 pub is_found : (bytes : List ℕ) (r : Result Image ImageError) → IsBytes bytes → Gives r (image_of bytes) → IfOk r (λ image. IsImage image × (bytes ≡ spelling image))

@@ -3,7 +3,7 @@ use Rattle.std.proofs.Common.{◌≡◌, ℕ, zero, suc, ◌+◌, ◌-◌, ◌*�
 use Rattle.std.proofs.lemmas.List.{append-nil}
 use Rattle.rv_image.specs.declared.error.ImageError.{ImageError}
 use Rattle.rv_image.specs.declared.error.ImageError.TheVariants as errors
-use Rattle.rv_image.specs.Rules.{total_size}
+use Rattle.rv_image.specs.Rules.{total_size, count_of}
 use Rattle.rv_image.specs.Reading.{◌>>=◌, Fails, exponent_at, exponents_at, frame_at, frames_from, ends_nonzero}
 
 -- what was read before, and what is still read
@@ -21,7 +21,7 @@ exponents_go_on bytes front count i at most room room' e total lt less read so_f
     let k : count - i ≡ suc (count - (i + 1)) = omega arith in
     let next : at + (i + 1) ≡ at + i + 1 = omega arith in
     let one : with_front front (exponents_at bytes (count - i) (at + i) most room) ≡ with_front (front ++ e ∷ []) (exponents_at bytes (count - (i + 1)) (at + (i + 1)) e room') =
-        rw (k, read, next, less) (front_more front e (exponents_at bytes (count - (i + 1)) (at + i + 1) e (room - 2 ^ e))) in
+    rw (k, read, next, less) (front_more front e (exponents_at bytes (count - (i + 1)) (at + i + 1) e (room - 2 ^ e))) in
     sym one ∙ so_far
 
 pub exponents_end : (f : ImageError) (bytes front : List ℕ) (count i at most room : ℕ) (total : Result (List ℕ) ImageError) → i < count → Fails f (exponent_at bytes (at + i) most room)
@@ -58,7 +58,7 @@ unfolding frames_from
 frames_go_on bytes front count i at at' left left' es total lt place fewer read so_far =
     let k : count - i ≡ suc (count - (i + 1)) = omega arith in
     let one : with_frames front (frames_from bytes (count - i) at left) ≡ with_frames (front ++ es ∷ []) (frames_from bytes (count - (i + 1)) at' left') =
-        rw (k, read, place, fewer) (frames_more front es (frames_from bytes (count - (i + 1)) (at + 4 + length es) (left - length es))) in
+    rw (k, read, place, fewer) (frames_more front es (frames_from bytes (count - (i + 1)) (at + 4 + length es) (left - length es))) in
     sym one ∙ so_far
 
 pub frames_end : (f : ImageError) (bytes : List ℕ) (front : List (List ℕ)) (count i at left : ℕ) (total : Result (List (List ℕ) × ℕ) ImageError) → i < count → Fails f (frame_at bytes at left)
@@ -87,3 +87,9 @@ last_is_zero (b ∷ c ∷ bs) (suc n) len = last_is_zero (c ∷ bs) n (omega ari
 
 pub ends_nonzero_last : (bytes : List ℕ) → 1 ≤ length bytes → not (eqb (get_or bytes (length bytes - 1) 0) 0) ≡ ends_nonzero bytes
 ends_nonzero_last bytes some = last_is_zero bytes (length bytes - 1) (omega arith)
+
+-- each frame has at most as many blocks as all have
+pub blocks_of_one : (frames : List (List ℕ)) (i : ℕ) (d : List ℕ) → i < length frames → length (get_or frames i d) ≤ count_of frames
+blocks_of_one [] i d lt = absurd (omega arith)
+blocks_of_one (es ∷ frames) zero d lt = omega arith
+blocks_of_one (es ∷ frames) (suc i) d lt = omega (arith, blocks_of_one frames i d (omega arith))

@@ -23,7 +23,7 @@ loop-i-preserved c =
       most_fits = low;
       counted = length-append l.list _ ∙ omega (arith, l.invariant.counted);
       sized = omega (arith, total_size-push l.list e, l.invariant.sized);
-      within = omega (arith, l.invariant.within, c.in_ok-e.ensures.fits.1)
+      within = omega (arith, l.invariant.within, c.in_ok-e.ensures.fits.1);
     })
 
 pub returns-clause-value : goal.returns-clause-value

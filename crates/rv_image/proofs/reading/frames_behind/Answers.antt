@@ -19,7 +19,7 @@ loop-preserved c =
     rw c.in_ok-push.ensures.ok (record {
       reads = frames_go_on c.args.bytes.now l.list c.args.count l.counter l.at _ l.left _ frame _ c.loop-test.true place fewer c.in_ok-frame.ensures.value l.invariant.reads;
       place = omega (arith, l.invariant.place);
-      few = omega (arith, l.invariant.few)
+      few = omega (arith, l.invariant.few);
     })
 
 pub returns-clause-value : goal.returns-clause-value

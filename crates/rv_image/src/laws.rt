@@ -1,0 +1,17 @@
+//! Laws of the format.
+ghost use Rattle.rv_image.specs.Laws.{SpelledIsRead, ReadIsSpelled, OneImage};
+
+/// The spelling of an image is read as that image: what was written is read again.
+pub fn spelled_is_read()
+    ensures { SpelledIsRead }
+{}
+
+/// What is read keeps the rules, and is spelled so.
+pub fn read_is_spelled()
+    ensures { ReadIsSpelled }
+{}
+
+/// No two images have one spelling.
+pub fn one_image()
+    ensures { OneImage }
+{}
