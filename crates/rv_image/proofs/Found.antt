@@ -69,10 +69,10 @@ exponent_takes : (bytes : List ℕ) (at most room e : ℕ) → exponent_at bytes
 unfolding exponent_at
 exponent_takes bytes at most room e eq =
     let a = rule_ok _ _ _ e eq in
-    let b = rule_ok _ _ _ e a.1 in
-    let is = ok_is (slice_index bytes at) e b.1 in
     let reaches : nat_lt at (length bytes) ≡ true = a.0 in
     let long : at < length bytes = grind (arith, nat_tests) in
+    let b = rule_ok _ _ _ e a.1 in
+    let is = ok_is (slice_index bytes at) e b.1 in
     let kept : is_exponent (slice_index bytes at) most room ≡ true = b.0 in
     subst (TakesExponent bytes at most room) is (record {
       took = record { parts = drop_more bytes at 0 long };
@@ -200,12 +200,12 @@ unfolding initial_at
 initial_takes bytes at most initial fits e =
     let a = bind_ok (number_at bytes at) _ initial e in
     let b = rule_ok _ _ _ initial a.2 in
+    let kept : nat_le a.0 most ≡ true = b.0 in
+    let few : a.0 ≤ most = grind (arith, nat_tests) in
     let c = bind_ok (field_at bytes (at + 4) a.0) _ initial b.1 in
     let d = rule_ok _ _ _ initial c.2 in
     let n = number_takes bytes at a.0 fits a.1 in
     let f = field_takes bytes (at + 4) a.0 c.0 c.1 in
-    let kept : nat_le a.0 most ≡ true = b.0 in
-    let few : a.0 ≤ most = grind (arith, nat_tests) in
     let together = Took-then bytes at (at + 4) (at + 4 + a.0) (number a.0) c.0 n.0 f.took in
     subst (AreInitial bytes at most) (ok_is c.0 initial d.1) (record {
       took = subst (λ k. Took bytes at (number k ++ c.0) (at + 4 + k)) (sym f.len_is) together;

@@ -11,5 +11,9 @@ pub mod laws;
 mod reading;
 mod writing;
 
+pub use error::ImageError;
 pub use reading::read;
 pub use writing::write;
+
+#[cfg(test)]
+mod tests;

@@ -23,11 +23,12 @@ pub fn read(alloc: Global, bytes: &[u8]) -> Result<Image, ImageError>
     // Else it is the first rule that is broken, in the order of the fields.
     ensures exact { Gives result (image_of bytes.now) }
 {
-    whole(alloc, bytes)
+    image(alloc, bytes)
 }
 
+// The fields one after the other. Their places stay far below 2^32, so that their ends do.
 #[tactic(auto, unfolding(crate::specs::Reading::image_of))]
-fn whole(alloc: Global, bytes: &[u8]) -> Result<Image, ImageError>
+fn image(alloc: Global, bytes: &[u8]) -> Result<Image, ImageError>
     requires { length bytes.now < 2 ^ 32 }
     ensures { Gives result (image_of bytes.now) }
 {
@@ -38,7 +39,7 @@ fn whole(alloc: Global, bytes: &[u8]) -> Result<Image, ImageError>
     let at = at + 4 + initial.len();
     let text = text(alloc, bytes, at, entry)?;
     let end = at + 4 + 4 * text.len();
-    keep(bytes.len() == end, ImageError::Extra { at: end as u32 })?;
+    check(bytes.len() == end, ImageError::Extra { at: end as u32 })?;
     Ok(Image {
         version: 1,
         entry,
@@ -50,7 +51,7 @@ fn whole(alloc: Global, bytes: &[u8]) -> Result<Image, ImageError>
 }
 
 // The error, unless the rule is kept.
-fn keep(kept: bool, error: ImageError) -> Result<(), ImageError>
+fn check(kept: bool, error: ImageError) -> Result<(), ImageError>
     ensures { result ≡ rule kept error }
 {
     if kept { Ok(()) } else { Err(error) }
@@ -92,11 +93,11 @@ fn entry(bytes: &[u8]) -> Result<u32, ImageError>
     ensures low { IfOk result (λ entry. 4096 ≤ entry) }
 {
     let magic = number(bytes, 0)?;
-    keep(magic == MAGIC, ImageError::BadMagic)?;
+    check(magic == MAGIC, ImageError::BadMagic)?;
     let version = number(bytes, 4)?;
-    keep(version == 1, ImageError::BadVersion { version })?;
+    check(version == 1, ImageError::BadVersion { version })?;
     let entry = number(bytes, 8)?;
-    keep(
+    check(
         entry % 4 == 0 && 0x1000 <= entry && entry < 0x20_0000,
         ImageError::BadField { at: 8 },
     )?;
@@ -107,12 +108,12 @@ fn entry(bytes: &[u8]) -> Result<u32, ImageError>
 #[tactic(auto, unfolding(crate::specs::Reading::globals_at))]
 fn globals(alloc: Global, bytes: &[u8], at: usize) -> Result<(List<u8>, u32), ImageError>
     requires size { length bytes.now < 2 ^ 32 }
-    requires place { at < 16 }
+    requires place { at < 2 ^ 24 }
     ensures value { GivesAs (λ globals. globals.0) result (globals_at bytes.now at) }
     ensures size { IfOk result (λ globals. (globals.1 ≡ total_size globals.0) × (globals.1 ≤ 2097152) × (length globals.0 ≤ 131072)) }
 {
     let count = number(bytes, at)?;
-    keep(count <= 131_072, ImageError::BadField { at: at as u32 })?;
+    check(count <= 131_072, ImageError::BadField { at: at as u32 })?;
     exponents(alloc, bytes, count, at + 4, 0x20_0000)
 }
 
@@ -120,12 +121,13 @@ fn globals(alloc: Global, bytes: &[u8], at: usize) -> Result<(List<u8>, u32), Im
 #[tactic(auto, unfolding(crate::specs::Reading::frame_at))]
 fn frame(alloc: Global, bytes: &[u8], at: usize, left: u32) -> Result<List<u8>, ImageError>
     requires size { length bytes.now < 2 ^ 32 }
-    requires place { (at < 200000) × (left ≤ 8192) }
+    requires place { at < 2 ^ 26 }
+    requires left { left ≤ 8192 }
     ensures value { Gives result (frame_at bytes.now at left) }
     ensures few { IfOk result (λ frame. length frame ≤ left) }
 {
     let count = number(bytes, at)?;
-    keep(count <= left, ImageError::BadField { at: at as u32 })?;
+    check(count <= left, ImageError::BadField { at: at as u32 })?;
     let (frame, _) = exponents(alloc, bytes, count, at + 4, 0x40_0000)?;
     Ok(frame)
 }
@@ -134,7 +136,7 @@ fn frame(alloc: Global, bytes: &[u8], at: usize, left: u32) -> Result<List<u8>, 
 #[tactic(auto, unfolding(crate::specs::Reading::exponent_at))]
 fn exponent(bytes: &[u8], at: usize, most: u8, room: u32) -> Result<u8, ImageError>
     requires size { length bytes.now < 2 ^ 32 }
-    requires place { at < 400000 }
+    requires place { at < 2 ^ 28 }
     requires most { most ≤ 20 }
     ensures value { Gives result (exponent_at bytes.now at most room) }
     ensures fits { IfOk result (λ e. (e ≤ most) × (2 ^ e ≤ room)) }
@@ -162,7 +164,8 @@ fn exponents(
     limit: u32,
 ) -> Result<(List<u8>, u32), ImageError>
     requires size { length bytes.now < 2 ^ 32 }
-    requires place { (at < 200004) × (count ≤ 131072) }
+    requires place { at < 2 ^ 27 }
+    requires count { count ≤ 131072 }
     ensures value { GivesAs (λ found. found.0) result (exponents_at bytes.now count at 20 limit) }
     ensures count { IfOk result (λ found. length found.0 ≡ count) }
     ensures size { IfOk result (λ found. (found.1 ≡ total_size found.0) × (found.1 ≤ limit)) }
@@ -183,12 +186,12 @@ fn exponents(
 #[tactic(auto, unfolding(crate::specs::Reading::frames_at))]
 fn frames(alloc: Global, bytes: &[u8], at: usize) -> Result<(List<List<u8>>, usize), ImageError>
     requires size { length bytes.now < 2 ^ 32 }
-    requires place { at ≤ 131088 }
+    requires place { at < 2 ^ 24 }
     ensures value { Gives result (frames_at bytes.now at) }
     ensures end { IfOk result (λ frames. frames.1 ≤ at + 12196) }
 {
     let count = number(bytes, at)?;
-    keep(count <= 1000, ImageError::BadField { at: at as u32 })?;
+    check(count <= 1000, ImageError::BadField { at: at as u32 })?;
     frames_behind(alloc, bytes, count, at + 4)
 }
 
@@ -200,7 +203,8 @@ fn frames_behind(
     start: usize,
 ) -> Result<(List<List<u8>>, usize), ImageError>
     requires size { length bytes.now < 2 ^ 32 }
-    requires place { (start ≤ 131092) × (count ≤ 1000) }
+    requires place { start < 2 ^ 25 }
+    requires count { count ≤ 1000 }
     ensures value { Gives result (frames_from bytes.now count start 8192) }
     ensures end { IfOk result (λ frames. frames.1 ≤ start + 4 * count + 8192) }
 {
@@ -220,14 +224,15 @@ fn frames_behind(
 #[tactic(auto, unfolding(crate::specs::Reading::initial_at))]
 fn initial(alloc: Global, bytes: &[u8], at: usize, most: u32) -> Result<Bytes, ImageError>
     requires size { length bytes.now < 2 ^ 32 }
-    requires place { (at ≤ 143284) × (most ≤ 2097152) }
+    requires place { at < 2 ^ 24 }
+    requires most { most ≤ 2097152 }
     ensures value { Gives result (initial_at bytes.now at most) }
     ensures few { IfOk result (λ initial. length initial ≤ 2097152) }
 {
     let len = number(bytes, at)?;
-    keep(len <= most, ImageError::BadField { at: at as u32 })?;
+    check(len <= most, ImageError::BadField { at: at as u32 })?;
     let field = field(bytes, at + 4, len as usize)?;
-    keep(
+    check(
         ends_nonzero(field),
         ImageError::BadField {
             at: at as u32 + 3 + len,
@@ -251,13 +256,13 @@ fn ends_nonzero(bytes: &[u8]) -> bool
 #[tactic(auto, unfolding(crate::specs::Reading::text_at))]
 fn text(alloc: Global, bytes: &[u8], at: usize, entry: u32) -> Result<List<u32>, ImageError>
     requires size { length bytes.now < 2 ^ 32 }
-    requires place { at ≤ 2240440 }
+    requires place { at < 2 ^ 24 }
     requires entry { 4096 ≤ entry }
     ensures value { Gives result (text_at bytes.now at entry) }
     ensures few { IfOk result (λ text. 4 * length text ≤ 2093056) }
 {
     let len = number(bytes, at)?;
-    keep(
+    check(
         len % 4 == 0 && 4 <= len && len <= 2_093_056 && entry - 0x1000 < len,
         ImageError::BadField { at: at as u32 },
     )?;

@@ -5,7 +5,7 @@ use Rattle.rv_image.proofs.Again.{image_again}
 use Rattle.rv_image.proofs.reading.read.Goals as goal
 
 pub returns-clause-found : goal.returns-clause-found
-returns-clause-found c = is_found c.args.bytes.now c.whole.result (λ i. omega (arith, c.type_inv.bytes i)) c.whole.ensures
+returns-clause-found c = is_found c.args.bytes.now c.image.result (λ i. omega (arith, c.type_inv.bytes i)) c.image.ensures
 
 pub returns-clause-only : goal.returns-clause-only
-returns-clause-only c = λ image rules words e. subst (λ read. Gives c.whole.result read) (ap image_of e ∙ image_again image rules words) c.whole.ensures
+returns-clause-only c = λ found rules words e. subst (λ read. Gives c.image.result read) (ap image_of e ∙ image_again found rules words) c.image.ensures
