@@ -1,16 +1,16 @@
 -- The spelling of an image is read as the image.
-use Rattle.std.proofs.Common.{◌≡◌, ℕ, zero, suc, ◌+◌, ◌-◌, ◌*◌, ◌/◌, ◌%◌, ◌^◌, ◌<◌, ◌≤◌, Bool, true, List, [], ◌∷◌, ◌++◌, length, get_or, take, drop, not, eqb, Result, Ok, Err, refl, sym, ap, subst, ◌∙◌, append_assoc, arith}
-use Rattle.std.specs.Prelude.{nat_le, nat_lt, ◌==◌, ◌&&◌, slice_index}
+use Rattle.std.proofs.Common.{◌≡◌, ℕ, ◌+◌, ◌-◌, ◌*◌, ◌%◌, ◌^◌, ◌<◌, ◌≤◌, true, false, List, [], ◌∷◌, ◌++◌, length, get_or, Ok, Err, refl, sym, ap, subst, ◌∙◌, append_assoc, arith, eq-eqb, ne_eqb}
+use Rattle.std.specs.Prelude.{nat_le, nat_lt, ◌==◌}
 use Rattle.std.specs.List.{flat_map}
 use Rattle.std.proofs.lemmas.Bool.Decides.{nat_tests}
-use Rattle.std.proofs.lemmas.List.{append-nil, length-append, length-drop, get_or-drop}
+use Rattle.std.proofs.lemmas.List.{append-nil, length-append, get_or-drop}
 use Rattle.std.proofs.lemmas.Nat.{from_le_bytes-to_le_bytes_4}
 use Rattle.rv_image.specs.declared.image.Image.{Image}
 use Rattle.rv_image.specs.declared.error.ImageError.{ImageError}
-use Rattle.rv_image.specs.declared.error.ImageError.TheVariants.{BadField}
+use Rattle.rv_image.specs.declared.error.ImageError.TheVariants.{BadField, Extra}
 use Rattle.rv_image.specs.Rules.{total_size, Decline, AreFrames, count_of, EndsNonzero, IsImage}
 use Rattle.rv_image.specs.Spelling.{magic, number, counted, framed, worded, spelling, AreWords}
-use Rattle.rv_image.specs.Reading.{◌>>=◌, rule, field_at, number_at, is_entry, entry_of, is_exponent, exponent_at, exponents_at, globals_at, frame_at, frames_from, frames_at, ends_nonzero, initial_at, words_of, is_text_size, text_at, image_of}
+use Rattle.rv_image.specs.Reading.{◌>>=◌, rule, number_at, is_entry, entry_of, is_exponent, exponent_at, exponents_at, globals_at, frame_at, frames_from, frames_at, ends_nonzero, initial_at, words_of, is_text_size, text_at, image_of}
 use Rattle.rv_image.proofs.Fields.{Stands, Stands-length, Stands-after, field_again, length-number, number_again}
 use Rattle.rv_image.proofs.Found.{magic_is}
 
@@ -138,19 +138,21 @@ after_worded bytes at ws rest s =
 
 -- ---- the image
 
-regrouped : (a b c d e f g : List ℕ) → a ++ b ++ c ++ d ++ e ++ f ++ g ≡ a ++ (b ++ (c ++ (d ++ (e ++ (f ++ (g ++ []))))))
-regrouped a b c d e f g = simp (append_assoc, append-nil)
+regrouped : (a b c d e f g rest : List ℕ) → (a ++ b ++ c ++ d ++ e ++ f ++ g) ++ rest ≡ a ++ (b ++ (c ++ (d ++ (e ++ (f ++ (g ++ rest))))))
+regrouped a b c d e f g rest = simp append_assoc
 
-pub image_again : (image : Image) → IsImage image → AreWords image.text → image_of (spelling image) ≡ Ok image
+-- where bytes follow, all that is left is to ask whether any do
+image_reads : (image : Image) (rest : List ℕ) → IsImage image → AreWords image.text
+    → image_of (spelling image ++ rest) ≡ (rule (length (spelling image ++ rest) == length (spelling image)) (Extra (length (spelling image))) >>= λ ended. Ok image)
 unfolding image_of spelling
-image_again image rules are =
-    let bytes = spelling image in
-    let t7 = worded image.text ++ [] in
+image_reads image rest rules are =
+    let bytes = spelling image ++ rest in
+    let t7 = worded image.text ++ rest in
     let t6 = counted image.initial ++ t7 in
     let t5 = framed image.frames ++ t6 in
     let t4 = counted image.globals ++ t5 in
     let parts : bytes ≡ magic ++ (number 1 ++ (number image.entry ++ t4)) =
-    regrouped magic (number image.version) (number image.entry) (counted image.globals) (framed image.frames) (counted image.initial) (worded image.text)
+    regrouped magic (number image.version) (number image.entry) (counted image.globals) (framed image.frames) (counted image.initial) (worded image.text) rest
     ∙ ap (λ v. magic ++ (number v ++ (number image.entry ++ t4))) rules.version in
     let s0 : Stands bytes 0 (magic ++ (number 1 ++ (number image.entry ++ t4))) = record { within = omega arith; is = parts } in
     let s4 : Stands bytes 4 (number 1 ++ (number image.entry ++ t4)) = Stands-after bytes 0 4 magic (number 1 ++ (number image.entry ++ t4)) refl s0 in
@@ -158,14 +160,28 @@ image_again image rules are =
     let s12 : Stands bytes 12 t4 = after_number bytes 8 image.entry t4 s8 in
     let entry = entry_again bytes image.entry t4 rules.entry_aligned rules.entry_low rules.entry_high s0 in
     let globals = globals_again bytes 12 image.globals t5 rules.globals_few rules.globals_decline rules.globals_fit s12 in
-    let s5 : Stands bytes (16 + length image.globals) t5 = after_counted bytes 12 image.globals t5 s12 in
-    let frames = framed_again bytes (16 + length image.globals) image.frames t6 rules.frames_few rules.frames_fit rules.blocks_few s5 in
+    let s16 : Stands bytes (16 + length image.globals) t5 = after_counted bytes 12 image.globals t5 s12 in
+    let frames = framed_again bytes (16 + length image.globals) image.frames t6 rules.frames_few rules.frames_fit rules.blocks_few s16 in
     let at : ℕ = frames.0 in
     let initial = initial_again bytes at (total_size image.globals) image.initial t7 rules.initial_fits rules.globals_fit rules.initial_ends frames.2 in
-    let s7 : Stands bytes (at + 4 + length image.initial) t7 = after_counted bytes at image.initial t7 frames.2 in
-    let text = text_again bytes (at + 4 + length image.initial) image.entry image.text [] rules.text_some rules.text_fits rules.entry_within are s7 in
-    let s8' : Stands bytes (at + 4 + length image.initial + 4 + 4 * length image.text) [] = after_worded bytes (at + 4 + length image.initial) image.text [] s7 in
-    let whole : length bytes ≡ at + 8 + length image.initial + 4 * length image.text = omega (arith, Stands-length bytes (at + 4 + length image.initial + 4 + 4 * length image.text) [] s8') in
-    let ended : (length bytes == at + 8 + length image.initial + 4 * length image.text) ≡ true = grind (arith, nat_tests) in
-    rw (entry, globals, frames.1, initial, text, ended)
-    (ap (λ v. Ok (let made : Image = record { version = v; entry = image.entry; globals = image.globals; frames = image.frames; initial = image.initial; text = image.text } in made)) (sym rules.version))
+    let after_initial : Stands bytes (at + 4 + length image.initial) t7 = after_counted bytes at image.initial t7 frames.2 in
+    let text = text_again bytes (at + 4 + length image.initial) image.entry image.text rest rules.text_some rules.text_fits rules.entry_within are after_initial in
+    let after_text : Stands bytes (at + 4 + length image.initial + 4 + 4 * length image.text) rest = after_worded bytes (at + 4 + length image.initial) image.text rest after_initial in
+    let end : at + 8 + length image.initial + 4 * length image.text ≡ length (spelling image) =
+    omega (arith, Stands-length bytes (at + 4 + length image.initial + 4 + 4 * length image.text) rest after_text, length-append (spelling image) rest) in
+    let same : (let made : Image = record { version = 1; entry = image.entry; globals = image.globals; frames = image.frames; initial = image.initial; text = image.text } in made) ≡ image =
+    ap (λ v. let made : Image = record { version = v; entry = image.entry; globals = image.globals; frames = image.frames; initial = image.initial; text = image.text } in made) (sym rules.version) in
+    rw (entry, globals, frames.1, initial, text, end)
+    (ap (λ (made : Image). rule (length bytes == length (spelling image)) (Extra (length (spelling image))) >>= λ ended. Ok made) same)
+
+pub image_again : (image : Image) → IsImage image → AreWords image.text → image_of (spelling image) ≡ Ok image
+image_again image rules are =
+    let same : (length (spelling image ++ []) == length (spelling image)) ≡ true = eq-eqb _ _ (ap length (append-nil (spelling image))) in
+    ap image_of (sym (append-nil (spelling image))) ∙ image_reads image [] rules are
+    ∙ ap (λ t. rule t (Extra (length (spelling image))) >>= λ ended. Ok image) same
+
+pub image_goes_on : (image : Image) (b : ℕ) (rest : List ℕ) → IsImage image → AreWords image.text → image_of (spelling image ++ b ∷ rest) ≡ Err (Extra (length (spelling image)))
+image_goes_on image b rest rules are =
+    let more : (length (spelling image ++ b ∷ rest) == length (spelling image)) ≡ false = ne_eqb _ _ (λ e. omega (arith, length-append (spelling image) (b ∷ rest))) in
+    image_reads image (b ∷ rest) rules are
+    ∙ ap (λ t. rule t (Extra (length (spelling image))) >>= λ ended. Ok image) more

@@ -1,17 +1,17 @@
 -- The image that is read keeps the rules, and the bytes are its spelling.
-use Rattle.std.proofs.Common.{◌≡◌, ℕ, zero, suc, ◌+◌, ◌-◌, ◌*◌, ◌/◌, ◌%◌, ◌^◌, ◌<◌, ◌≤◌, Bool, true, List, [], ◌∷◌, ◌++◌, length, get_or, take, drop, not, eqb, Result, Ok, Err, refl, sym, ap, subst, ◌∙◌, append_assoc, arith}
-use Rattle.std.specs.Prelude.{nat_le, nat_lt, ◌==◌, ◌&&◌, slice_index, IfOk}
+use Rattle.std.proofs.Common.{◌≡◌, ℕ, zero, suc, ◌+◌, ◌-◌, ◌*◌, ◌/◌, ◌%◌, ◌^◌, ◌<◌, ◌≤◌, true, List, [], ◌∷◌, ◌++◌, length, drop, Result, Ok, Err, refl, sym, ap, subst, ◌∙◌, arith}
+use Rattle.std.specs.Prelude.{nat_le, nat_lt, ◌==◌, slice_index, IfOk}
 use Rattle.std.specs.Int.{w32, from_le_bytes}
 use Rattle.std.specs.List.{flat_map}
 use Rattle.std.proofs.lemmas.Bool.Decides.{nat_tests}
-use Rattle.std.proofs.lemmas.List.{append-nil, length-append, length-drop, drop_more, nil_from_length}
+use Rattle.std.proofs.lemmas.List.{append-nil, length-drop, drop_more, nil_from_length}
 use Rattle.rv_image.specs.declared.image.Image.{Image}
 use Rattle.rv_image.specs.declared.error.ImageError.{ImageError}
-use Rattle.rv_image.specs.declared.error.ImageError.TheVariants.{Short, BadMagic, BadVersion, BadField, Extra}
+use Rattle.rv_image.specs.declared.error.ImageError.TheVariants.{BadField}
 use Rattle.rv_image.specs.Rules.{total_size, Decline, AreFrames, count_of, EndsNonzero, IsImage}
 use Rattle.rv_image.specs.Spelling.{magic, number, counted, framed, worded, spelling, AreWords}
 use Rattle.rv_image.specs.Reading.{◌>>=◌, rule, field_at, number_at, is_entry, entry_of, is_exponent, exponent_at, exponents_at, globals_at, frame_at, frames_from, frames_at, ends_nonzero, initial_at, words_of, is_text_size, text_at, image_of, Gives}
-use Rattle.rv_image.proofs.Fields.{bind_ok, rule_ok, ok_is, IsBytes, IsBytes-take, IsBytes-drop, Took, Took-then, Took-to, IsField, field_takes, number_is, number_takes}
+use Rattle.rv_image.proofs.Fields.{bind_ok, rule_ok, ok_is, IsBytes, IsBytes-take, IsBytes-drop, Took, Took-then, Took-to, field_takes, number_is, number_takes}
 
 -- ---- the entry
 

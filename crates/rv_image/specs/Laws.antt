@@ -1,6 +1,7 @@
 -- Laws of the format.
-use Rattle.std.specs.Prelude.{◌≡◌, ℕ, ◌<◌, List, slice_index, Ok}
+use Rattle.std.specs.Prelude.{◌≡◌, ℕ, ◌<◌, List, ◌∷◌, ◌++◌, length, slice_index, Ok, Err}
 use Rattle.rv_image.specs.declared.image.Image.{Image}
+use Rattle.rv_image.specs.declared.error.ImageError.TheVariants.{Extra}
 use Rattle.rv_image.specs.Rules.{IsImage}
 use Rattle.rv_image.specs.Spelling.{spelling, AreWords}
 use Rattle.rv_image.specs.Reading.{image_of}
@@ -13,3 +14,6 @@ ReadIsSpelled = (bytes : List ℕ) (image : Image) → ((i : ℕ) → slice_inde
 
 abbrev pub OneImage : Type 0
 OneImage = (a b : Image) → IsImage a → IsImage b → AreWords a.text → AreWords b.text → spelling a ≡ spelling b → a ≡ b
+
+abbrev pub GoesOn : Type 0
+GoesOn = (image : Image) (b : ℕ) (rest : List ℕ) → IsImage image → AreWords image.text → image_of (spelling image ++ b ∷ rest) ≡ Err (Extra (length (spelling image)))

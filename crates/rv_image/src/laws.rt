@@ -1,5 +1,5 @@
 //! Laws of the format.
-ghost use Rattle.rv_image.specs.Laws.{SpelledIsRead, ReadIsSpelled, OneImage};
+ghost use Rattle.rv_image.specs.Laws.{SpelledIsRead, ReadIsSpelled, OneImage, GoesOn};
 
 /// The spelling of an image is read as that image: what was written is read again.
 pub fn spelled_is_read()
@@ -14,4 +14,9 @@ pub fn read_is_spelled()
 /// No two images have one spelling.
 pub fn one_image()
     ensures { OneImage }
+{}
+
+/// Where bytes follow the spelling of an image, the first of them is refused.
+pub fn goes_on()
+    ensures { GoesOn }
 {}

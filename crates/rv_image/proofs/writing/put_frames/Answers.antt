@@ -1,5 +1,4 @@
-use Rattle.std.proofs.Common.{◌≡◌, ◌≤◌, length, get_or, arith, ap, sym}
-use Rattle.rv_image.specs.Rules.{count_of}
+use Rattle.std.proofs.Common.{length, arith, ap}
 use Rattle.rv_image.proofs.Loops.{blocks_of_one}
 use Rattle.rv_image.proofs.writing.put_frames.Goals as goal
 
