@@ -9,6 +9,7 @@ use Rattle.rv_image.specs.declared.image.Image.{Image}
 use Rattle.rv_image.specs.declared.error.ImageError.{ImageError}
 use Rattle.rv_image.specs.declared.error.ImageError.TheVariants.{Short, BadMagic, BadVersion, BadField, Extra, Memory}
 use Rattle.rv_image.specs.Rules.{total_size}
+use Rattle.rv_image.specs.Spelling.{magic}
 
 -- one after the other, up to the first error
 infixl 10 ◌>>=◌
@@ -38,8 +39,8 @@ is_entry n = (n % 4 == 0) && (nat_le 4096 n && nat_lt n 2097152)
 
 unfoldable pub entry_of : List ℕ → Result ℕ ImageError
 entry_of bytes = do
-  magic ← number_at bytes 0
-  same ← rule (magic == 1497841986) BadMagic
+  letters ← number_at bytes 0
+  same ← rule (letters == from_le_bytes w32 magic) BadMagic
   version ← number_at bytes 4
   known ← rule (version == 1) (BadVersion version)
   entry ← number_at bytes 8

@@ -10,7 +10,7 @@ use crate::image::Image;
 use bb_words::list::{Bytes, List};
 use std::alloc::Global;
 
-// The letters BAGY as a number.
+// The letters BAGY as a number, the first of them in the lowest byte.
 const MAGIC: u32 = 0x5947_4142;
 
 /// The image that the bytes spell, or the first rule that they break.
