@@ -1,0 +1,5 @@
+pub mod Steps
+pub mod Outside
+pub mod Calls
+pub mod Runs
+pub mod Tables

@@ -1,0 +1,41 @@
+-- What a machine holds.
+use Rattle.std.specs.Prelude.{ℕ, ◌+◌, ◌==◌, if◌then◌else◌, List, Option, Some, None, slice_index, slice_set}
+use Rattle.rv_machine.specs.declared.stop.Halt.{Halt}
+
+-- the program counter, the 32 registers and the bytes of the memory
+pub record Core : Type 0 where
+  pub pc : ℕ
+  pub registers : List ℕ
+  pub memory : List ℕ
+
+-- a core, and how the machine has ended, if it has
+pub record State : Type 0 where
+  pub core : Core
+  pub ending : Option Halt
+
+-- how many bytes the memory has; the number does not unfold by itself, since it is large
+unfoldable pub memory_size : ℕ
+memory_size = 33554432
+
+-- the content of a register
+abbrev pub register_of : Core → ℕ → ℕ
+register_of core at = slice_index core.registers at
+
+-- a register is set; register 0 stays 0
+abbrev pub set_register : ℕ → ℕ → Core → Core
+set_register rd value core = record core { registers = if rd == 0 then core.registers else slice_set core.registers rd value }
+
+-- the program counter goes on to the next instruction
+abbrev pub next : Core → Core
+next core = record core { pc = core.pc + 4 }
+
+-- a register gets a value, and the next instruction comes
+abbrev pub gives : ℕ → ℕ → Core → Core
+gives rd value core = next (set_register rd value core)
+
+-- the machine has ended so
+abbrev pub halted : Halt → State → State
+halted halt s = record s { ending = Some halt }
+
+abbrev pub with_core : Core → State → State
+with_core core s = record s { core = core }

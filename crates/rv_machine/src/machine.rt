@@ -1,0 +1,199 @@
+//! The machine with its environment, and runs of it.
+ghost use Rattle.std.specs.Prelude.{◌≡◌, ◌<◌, ℕ, Bool, List, Option, None, slice_index, IfOk};
+ghost use Rattle.bb_outside.specs.Causes.{HasCause};
+ghost use Rattle.rv_image.specs.Rules.{IsImage};
+
+use crate::core_step::Core;
+use crate::stop::{Effect, Fault, Halt, Stop};
+use bb_outside::{Sink, SinkFailed, Source, SourceFailed};
+use bb_words::kinds::TrapKind;
+use bb_words::word::Word;
+use rv_image::image::Image;
+use std::alloc::{AllocError, Global};
+use std::marker::Model;
+
+/// A machine: its registers, its memory, and how it has ended, if it has.
+#[derive(Drop)]
+pub struct Machine {
+    core: Core,
+    ended: Option<Halt>,
+}
+
+impl Model for Machine {
+    ghost use Rattle.rv_machine.specs.State.{State};
+
+    ghost Value = { State };
+
+    ghost view = { λ m. record { core = m.core; ending = m.ended } };
+}
+
+impl Machine {
+    ghost use Rattle.rv_machine.specs.State.{register_of};
+    ghost use Rattle.rv_machine.specs.Instruction.{Asks, core_step};
+    ghost use Rattle.rv_machine.specs.Environment.{calls, exits, gets, puts};
+    ghost use Rattle.rv_machine.specs.Machine.{step};
+    ghost use Rattle.rv_machine.specs.Start.{start};
+    ghost use Rattle.rv_machine.specs.Runs.{Answered, Stepped, Stops, FaultCause, fault_of, stop_of};
+
+    /// The machine at the start of an image. It takes all memory that the machine ever needs.
+    #[tactic(auto, unfolding(crate::specs::Start::start))]
+    pub fn new(alloc: Global, image: &Image) -> Result<Machine, AllocError>
+        requires { IsImage image.now }
+        ensures { IfOk result (λ machine. machine ≡ start image.now) }
+    {
+        let core = Core::new(alloc, image)?;
+        Ok(Machine { core, ended: None })
+    }
+
+    /// Executes at most n further instructions. A machine that has ended stays as it is. After a fault a further run
+    /// does the environment call again that failed.
+    pub fn run<I: Source, O: Sink>(&mut self, n: u64, input: &mut I, output: &mut O) -> Stop
+        ensures stops { Stops result n
+            self.old (record { left = I.left input.old; is_over = I.is_over input.old; written = O.written output.old })
+            self.new (record { left = I.left input.new; is_over = I.is_over input.new; written = O.written output.new }) }
+        ensures cause { FaultCause (fault_of result) (I.faults input.old) (I.faults input.new) (O.faults output.old) (O.faults output.new) }
+    {
+        for _done in 0..n {
+            if self.ended.is_some() {
+                return self.stop();
+            }
+            match self.step(input, output) {
+                None => {}
+                Some(Fault::Read) => return Stop::ReadFault,
+                Some(Fault::Write) => return Stop::WriteFault,
+            }
+        }
+        self.stop()
+    }
+
+    /// The program counter.
+    pub fn pc(&self) -> u32
+        ensures { result ≡ self.now.core.pc }
+    {
+        self.core.pc()
+    }
+
+    /// The content of a register.
+    pub fn register(&self, at: u8) -> Word
+        requires { at < 32 }
+        ensures { result.0 ≡ register_of self.now.core at }
+    {
+        Word(self.core.register(at))
+    }
+
+    /// A byte of the memory.
+    pub fn byte(&self, at: u32) -> u8
+        requires { at < 33554432 }
+        ensures { result ≡ slice_index self.now.core.memory at }
+    {
+        self.core.byte(at)
+    }
+
+    fn stop(&self) -> Stop
+        ensures { result ≡ stop_of self.now.ending }
+    {
+        match self.ended {
+            None => Stop::OutOfSteps,
+            Some(Halt::Exited(status)) => Stop::Exited(status),
+            Some(Halt::Reported { kind, line }) => Stop::Reported { kind, line },
+            Some(Halt::Trapped { kind }) => Stop::Trapped { kind },
+        }
+    }
+
+    fn step<I: Source, O: Sink>(&mut self, input: &mut I, output: &mut O) -> Option<Fault>
+        requires { self.old.ending ≡ None }
+        ensures stepped { Stepped result step
+            self.old (record { left = I.left input.old; is_over = I.is_over input.old; written = O.written output.old })
+            self.new (record { left = I.left input.new; is_over = I.is_over input.new; written = O.written output.new }) }
+        ensures cause { FaultCause result (I.faults input.old) (I.faults input.new) (O.faults output.old) (O.faults output.new) }
+    {
+        match self.core.step() {
+            Effect::Went => None,
+            Effect::Trapped { kind } => {
+                self.ended = Some(Halt::Trapped { kind });
+                None
+            }
+            Effect::Asked => self.call(input, output),
+        }
+    }
+
+    // The environment call whose number is in x17.
+    fn call<I: Source, O: Sink>(&mut self, input: &mut I, output: &mut O) -> Option<Fault>
+        requires running { self.old.ending ≡ None }
+        requires asks { core_step self.old.core ≡ Asks }
+        requires in_text { self.old.core.pc < 2097152 }
+        ensures stepped { Stepped result calls
+            self.old (record { left = I.left input.old; is_over = I.is_over input.old; written = O.written output.old })
+            self.new (record { left = I.left input.new; is_over = I.is_over input.new; written = O.written output.new }) }
+        ensures cause { FaultCause result (I.faults input.old) (I.faults input.new) (O.faults output.old) (O.faults output.new) }
+    {
+        match self.core.register(17) {
+            1 => {
+                self.exit();
+                None
+            }
+            2 => match self.getchar(input) {
+                Ok(()) => None,
+                Err(_) => Some(Fault::Read),
+            },
+            3 => match self.putchar(output) {
+                Ok(()) => None,
+                Err(_) => Some(Fault::Write),
+            },
+            _ => {
+                self.ended = Some(Halt::Trapped {
+                    kind: TrapKind::Call,
+                });
+                None
+            }
+        }
+    }
+
+    fn exit(&mut self)
+        requires { self.old.core.pc < 2097152 }
+        ensures { self.new ≡ exits self.old }
+    {
+        let status = (self.core.register(10) % 256) as u8;
+        self.core.pass();
+        self.ended = Some(Halt::Exited(status));
+    }
+
+    // x10 becomes the next byte of the input, or all ones at its end.
+    fn getchar<I: Source>(&mut self, input: &mut I) -> Result<(), SourceFailed>
+        requires { self.old.core.pc < 2097152 }
+        ensures answered { (written : Option (List ℕ)) → Answered result gets
+            self.old (record { left = I.left input.old; is_over = I.is_over input.old; written = written })
+            self.new (record { left = I.left input.new; is_over = I.is_over input.new; written = written }) }
+        ensures cause { HasCause (I.faults input.old) (I.faults input.new) result }
+    {
+        match input.take() {
+            Ok(Some(byte)) => {
+                self.core.give(10, u32::from(byte));
+                Ok(())
+            }
+            Ok(None) => {
+                self.core.give(10, u32::MAX);
+                Ok(())
+            }
+            Err(failed) => Err(failed),
+        }
+    }
+
+    // The low byte of x10 is written, and x10 becomes that byte.
+    fn putchar<O: Sink>(&mut self, output: &mut O) -> Result<(), SinkFailed>
+        requires { self.old.core.pc < 2097152 }
+        ensures answered { (left : Option (List ℕ)) (is_over : Bool) → Answered result puts
+            self.old (record { left = left; is_over = is_over; written = O.written output.old })
+            self.new (record { left = left; is_over = is_over; written = O.written output.new }) }
+        ensures cause { HasCause (O.faults output.old) (O.faults output.new) result }
+    {
+        let byte = (self.core.register(10) % 256) as u8;
+        match output.put(&[byte]) {
+            Ok(_) => {
+                self.core.give(10, u32::from(byte));
+                Ok(())
+            }
+            Err(failed) => Err(failed),
+        }
+    }
+}

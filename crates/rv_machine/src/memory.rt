@@ -1,0 +1,78 @@
+//! Bytes and words in memory.
+ghost use Rattle.std.specs.Prelude.{◌≡◌, ◌+◌, ◌-◌, ◌*◌, ◌^◌, ◌≤◌, length, replicate, vec_len, IfOk, All};
+ghost use Rattle.rv_machine.specs.State.{memory_size};
+ghost use Rattle.rv_machine.specs.Memory.{word_at, written_at, bytes_of_words, table_bytes, IsExponent};
+
+use std::alloc::{AllocError, Global};
+
+// The bytes of the machine's memory.
+const MEMORY_SIZE: usize = 33_554_432;
+
+/// The whole memory, zero throughout.
+#[tactic(auto, unfolding(crate::specs::State::memory_size))]
+pub(crate) fn zeros(alloc: Global) -> Result<Vec<u8>, AllocError>
+    ensures items { IfOk result (λ memory. memory.items ≡ replicate memory_size 0) }
+    ensures len { IfOk result (λ memory. vec_len memory ≡ 33554432) }
+{
+    zeros_of(alloc, MEMORY_SIZE)
+}
+
+fn zeros_of(alloc: Global, count: usize) -> Result<Vec<u8>, AllocError>
+    ensures items { IfOk result (λ memory. memory.items ≡ replicate count 0) }
+    ensures len { IfOk result (λ memory. vec_len memory ≡ count) }
+{
+    vec![in alloc; 0u8; count]
+}
+
+/// The word at an address.
+pub(crate) fn word_at(memory: &[u8], at: usize) -> u32
+    requires { at + 4 ≤ length memory.now }
+    ensures { result ≡ word_at memory.now at }
+{
+    u32::from_le_bytes([memory[at], memory[at + 1], memory[at + 2], memory[at + 3]])
+}
+
+/// Writes bytes from an address on.
+pub(crate) fn write_bytes(memory: &mut [u8], at: usize, bytes: &[u8])
+    requires { at + length bytes.now ≤ length memory.old }
+    ensures { memory.new ≡ written_at memory.old at bytes.now }
+{
+    for (i, byte) in bytes.iter().enumerate() {
+        memory[at + i] = *byte;
+    }
+}
+
+/// Writes words from an address on, the lowest byte of each first.
+pub(crate) fn write_words(memory: &mut [u8], at: usize, words: &[u32])
+    requires { at + 4 * length words.now ≤ length memory.old }
+    ensures { memory.new ≡ written_at memory.old at (bytes_of_words words.now) }
+{
+    for (i, word) in words.iter().enumerate() {
+        let bytes = word.to_le_bytes();
+        write_bytes(memory, at + 4 * i, &bytes);
+    }
+}
+
+// Writes so many copies of a byte from an address on.
+fn write_copies(memory: &mut [u8], at: usize, count: usize, byte: u8)
+    requires { at + count ≤ length memory.old }
+    ensures { memory.new ≡ written_at memory.old at (replicate count byte) }
+{
+    for i in 0..count {
+        memory[at + i] = byte;
+    }
+}
+
+/// Writes the size table's bytes for blocks of these exponents, from the first one's slot on.
+pub(crate) fn write_table(memory: &mut [u8], at: usize, exponents: &[u8])
+    requires exponents { All IsExponent exponents.now }
+    requires room { at + length (table_bytes exponents.now) ≤ length memory.old }
+    ensures { memory.new ≡ written_at memory.old at (table_bytes exponents.now) }
+{
+    let mut slot = at;
+    for exponent in exponents {
+        let count = 1usize << (exponent - 4);
+        write_copies(memory, slot, count, *exponent);
+        slot += count;
+    }
+}
