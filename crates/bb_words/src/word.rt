@@ -1,7 +1,7 @@
 //! Words of 32 bits, and the operations on them.
-ghost use Rattle.std.specs.Prelude.{◌≡◌};
+ghost use Rattle.std.specs.Prelude.{◌≡◌, ◌*ℤ◌};
 ghost use Rattle.std.specs.Int.{to_le_bytes, from_le_bytes, w32};
-ghost use Rattle.bb_words.specs.Numbers.{sum, difference};
+ghost use Rattle.bb_words.specs.Numbers.{sum, difference, product, signed_high_product, mixed_high_product, unsigned_high_product, signed_quotient, unsigned_quotient, signed_remainder, unsigned_remainder, left_shift, right_shift, signed_right_shift, signed_below, unsigned_below, signed, word_of, floor_shift};
 
 /// A word, the content of a register of RV32I: a number below 2^32.
 #[derive(Clone, Copy, Debug, PartialEq, Eq)]
@@ -22,9 +22,129 @@ impl Word {
         Word(self.0.wrapping_sub(other.0))
     }
 
-    /// The four bytes, the lowest first.
+    /// MUL: the product, modulo 2^32.
+    pub fn mul(self, other: Word) -> Word
+        ensures { result.0 ≡ product self.0 other.0 }
+    {
+        Word(self.0.wrapping_mul(other.0))
+    }
+
+    /// MULH: the upper word of the product of two signed words.
+    #[tactic(auto, unfolding(crate::specs::Numbers::signed_high_product))]
+    pub fn mulh(self, other: Word) -> Word
+        ensures { result.0 ≡ signed_high_product self.0 other.0 }
+    {
+        Word(upper_half(signed_product(self.0, other.0)))
+    }
+
+    /// MULHSU: the upper word of the product of this word, signed, and the other, unsigned.
+    #[tactic(auto, unfolding(crate::specs::Numbers::mixed_high_product))]
+    pub fn mulhsu(self, other: Word) -> Word
+        ensures { result.0 ≡ mixed_high_product self.0 other.0 }
+    {
+        let left = i64::from(self.0.cast_signed());
+        let right = i64::from(other.0);
+        Word(upper_half(left * right))
+    }
+
+    /// MULHU: the upper word of the product of two unsigned words.
+    pub fn mulhu(self, other: Word) -> Word
+        ensures { result.0 ≡ unsigned_high_product self.0 other.0 }
+    {
+        Word((u64::from(self.0) * u64::from(other.0) / 0x1_0000_0000) as u32)
+    }
+
+    /// DIV: the signed quotient, rounded toward zero. By zero it is all ones, and that of -2^31 by
+    /// -1 is -2^31.
+    #[tactic(auto, unfolding(crate::specs::Numbers::signed_quotient))]
+    pub fn div(self, other: Word) -> Word
+        ensures { result.0 ≡ signed_quotient self.0 other.0 }
+    {
+        if other.0 == 0 {
+            Word(u32::MAX)
+        } else {
+            let quotient = self.0.cast_signed().wrapping_div(other.0.cast_signed());
+            Word(quotient.cast_unsigned())
+        }
+    }
+
+    /// DIVU: the unsigned quotient. By zero it is all ones.
+    pub fn divu(self, other: Word) -> Word
+        ensures { result.0 ≡ unsigned_quotient self.0 other.0 }
+    {
+        if other.0 == 0 {
+            Word(u32::MAX)
+        } else {
+            Word(self.0 / other.0)
+        }
+    }
+
+    /// REM: the signed remainder, with the sign of the dividend. By zero it is the dividend, and
+    /// that of -2^31 by -1 is 0.
+    #[tactic(auto, unfolding(crate::specs::Numbers::signed_remainder))]
+    pub fn rem(self, other: Word) -> Word
+        ensures { result.0 ≡ signed_remainder self.0 other.0 }
+    {
+        if other.0 == 0 {
+            self
+        } else {
+            let rest = self.0.cast_signed().wrapping_rem(other.0.cast_signed());
+            Word(rest.cast_unsigned())
+        }
+    }
+
+    /// REMU: the unsigned remainder. By zero it is the dividend.
+    pub fn remu(self, other: Word) -> Word
+        ensures { result.0 ≡ unsigned_remainder self.0 other.0 }
+    {
+        if other.0 == 0 {
+            self
+        } else {
+            Word(self.0 % other.0)
+        }
+    }
+
+    /// SLL: this word shifted left by the lowest 5 bits of the other.
+    pub fn shl(self, other: Word) -> Word
+        ensures { result.0 ≡ left_shift self.0 other.0 }
+    {
+        Word(self.0 << (other.0 % 32))
+    }
+
+    /// SRL: this word shifted right by the lowest 5 bits of the other, filled with zeros.
+    pub fn shr(self, other: Word) -> Word
+        ensures { result.0 ≡ right_shift self.0 other.0 }
+    {
+        Word(self.0 >> (other.0 % 32))
+    }
+
+    /// SRA: this word shifted right by the lowest 5 bits of the other, filled with its sign.
+    #[tactic(auto, unfolding(crate::specs::Numbers::signed_right_shift))]
+    pub fn sar(self, other: Word) -> Word
+        ensures { result.0 ≡ signed_right_shift self.0 other.0 }
+    {
+        Word((self.0.cast_signed() >> (other.0 % 32)).cast_unsigned())
+    }
+
+    /// SLT: 1 if this word is below the other, both signed, and 0 if not.
+    #[tactic(auto, unfolding(crate::specs::Numbers::signed_below))]
+    pub fn lts(self, other: Word) -> Word
+        ensures { result.0 ≡ signed_below self.0 other.0 }
+    {
+        Word(u32::from(self.0.cast_signed() < other.0.cast_signed()))
+    }
+
+    /// SLTU: 1 if this word is below the other, both unsigned, and 0 if not.
+    pub fn ltu(self, other: Word) -> Word
+        ensures { result.0 ≡ unsigned_below self.0 other.0 }
+    {
+        Word(u32::from(self.0 < other.0))
+    }
+
+    /// The four bytes, the lowest first. It is the inverse of `word_of`.
     pub fn bytes_of(self) -> [u8; 4]
-        ensures { result ≡ to_le_bytes w32 self.0 }
+        ensures bytes { result ≡ to_le_bytes w32 self.0 }
+        ensures inverse { from_le_bytes w32 result ≡ self.0 }
     {
         self.0.to_le_bytes()
     }
@@ -35,5 +155,120 @@ impl Word {
         ensures inverse { to_le_bytes w32 result.0 ≡ bytes }
     {
         Word(u32::from_le_bytes(bytes))
+    }
+}
+
+/// The upper word of a signed product.
+fn upper_half(product: i64) -> u32
+    ensures { result ≡ word_of (floor_shift product 32) }
+{
+    ((product >> 32) as i32).cast_unsigned()
+}
+
+/// The product of two words, both signed.
+fn signed_product(left: u32, right: u32) -> i64
+    ensures { result ≡ signed left *ℤ signed right }
+{
+    i64::from(left.cast_signed()) * i64::from(right.cast_signed())
+}
+
+#[cfg(test)]
+mod tests {
+    use super::*;
+
+    // Two words, and their MUL, MULH, MULHSU and MULHU, from the RISC-V tests for RV32M.
+    const PRODUCTS: [(u32, u32, [u32; 4]); 5] = [
+        (
+            0xAAAA_AAAB,
+            0x0002_FE7D,
+            [0x0000_FF7F, 0xFFFF_0081, 0xFFFF_0081, 0x0001_FEFE],
+        ),
+        (
+            0x0002_FE7D,
+            0xAAAA_AAAB,
+            [0x0000_FF7F, 0xFFFF_0081, 0x0001_FEFE, 0x0001_FEFE],
+        ),
+        (
+            0xFF00_0000,
+            0xFF00_0000,
+            [0x0000_0000, 0x0001_0000, 0xFF01_0000, 0xFE01_0000],
+        ),
+        (
+            0xFFFF_FFFF,
+            0xFFFF_FFFF,
+            [0x0000_0001, 0x0000_0000, 0xFFFF_FFFF, 0xFFFF_FFFE],
+        ),
+        (
+            0xFFFF_FFFF,
+            0x0000_0001,
+            [0xFFFF_FFFF, 0xFFFF_FFFF, 0xFFFF_FFFF, 0x0000_0000],
+        ),
+    ];
+
+    // Two words, and their DIV, DIVU, REM and REMU, from the RISC-V tests for RV32M.
+    const QUOTIENTS: [(u32, u32, [u32; 4]); 7] = [
+        (20, 6, [3, 3, 2, 2]),
+        (0xFFFF_FFEC, 6, [0xFFFF_FFFD, 0x2AAA_AAA7, 0xFFFF_FFFE, 2]),
+        (20, 0xFFFF_FFFA, [0xFFFF_FFFD, 0, 2, 20]),
+        (0xFFFF_FFEC, 0xFFFF_FFFA, [3, 0, 0xFFFF_FFFE, 0xFFFF_FFEC]),
+        (0x8000_0000, 0xFFFF_FFFF, [0x8000_0000, 0, 0, 0x8000_0000]),
+        (
+            0x8000_0000,
+            0,
+            [0xFFFF_FFFF, 0xFFFF_FFFF, 0x8000_0000, 0x8000_0000],
+        ),
+        (0, 0, [0xFFFF_FFFF, 0xFFFF_FFFF, 0, 0]),
+    ];
+
+    // Two words, and their SLL, SRL, SRA, SLT and SLTU, from the RISC-V tests for RV32I.
+    const SHIFTS: [(u32, u32, [u32; 5]); 4] = [
+        (
+            0x2121_2121,
+            7,
+            [0x9090_9080, 0x0042_4242, 0x0042_4242, 0, 0],
+        ),
+        (
+            0x2121_2121,
+            0xFFFF_FFC7,
+            [0x9090_9080, 0x0042_4242, 0x0042_4242, 0, 1],
+        ),
+        (
+            0x8000_0000,
+            0x7FFF_FFFF,
+            [0x0000_0000, 0x0000_0001, 0xFFFF_FFFF, 1, 0],
+        ),
+        (
+            0x8181_8181,
+            14,
+            [0x6060_4000, 0x0002_0606, 0xFFFE_0606, 1, 0],
+        ),
+    ];
+
+    #[test]
+    fn operations_of_the_manual(rt: HostRuntime) {
+        for (a, b, want) in PRODUCTS {
+            let (a, b) = (Word(a), Word(b));
+            assert_eq!(rt;
+                [a.mul(b).0, a.mulh(b).0, a.mulhsu(b).0, a.mulhu(b).0],
+                want
+            );
+        }
+        for (a, b, want) in QUOTIENTS {
+            let (a, b) = (Word(a), Word(b));
+            assert_eq!(rt; [a.div(b).0, a.divu(b).0, a.rem(b).0, a.remu(b).0], want);
+        }
+        for (a, b, want) in SHIFTS {
+            let (a, b) = (Word(a), Word(b));
+            let got = [a.shl(b).0, a.shr(b).0, a.sar(b).0, a.lts(b).0, a.ltu(b).0];
+            assert_eq!(rt; got, want);
+        }
+    }
+
+    #[test]
+    fn sums_and_bytes(rt: HostRuntime) {
+        let (a, b) = (Word(1), Word(0x0403_0202));
+        assert_eq!(rt; a.sub(b).add(b), a);
+        assert_eq!(rt; b.sub(a).bytes_of(), [1, 2, 3, 4]);
+        assert_eq!(rt; Word::word_of([1, 2, 3, 4]).add(a), b);
     }
 }

@@ -3,3 +3,4 @@ pub mod Outside
 pub mod Calls
 pub mod Runs
 pub mod Tables
+pub mod Programs

@@ -71,6 +71,7 @@ ran_end s left left' over over' written t e = record {
     does : (rest : List ℕ) (told : List Tell) → rest ≡ [] → gets (record { machine = s; left = rest; told = told }) ≡ record { machine = with_core (gives 10 4294967295 s.core) s; left = rest; told = told ++ [] }
     does [] told h = told_nil (with_core (gives 10 4294967295 s.core) s) [] told
     does (x ∷ rest) told h = absurd (cc)
+
     by : (bytes : List ℕ) → Takes {E = SourceFailed} (Some bytes) left' (Ok None) → (rest : List ℕ) × (bytes ≡ [] ++ rest) × (left' ≡ Some rest)
     by [] h = ([], refl, h)
     by (first ∷ rest) h = absurd h

@@ -197,3 +197,54 @@ impl Machine {
         }
     }
 }
+
+#[cfg(test)]
+mod tests {
+    use super::*;
+    use bb_outside::mem_sink::MemSink;
+    use bb_outside::mem_source::MemSource;
+    use bb_words::list::List;
+    use std::test::Fail;
+
+    // getchar, putchar, and exit with what putchar left in x10.
+    fn echo(alloc: Global) -> Result<Image, AllocError> {
+        let words = [
+            0x0020_0893u32,
+            0x0000_0073,
+            0x0030_0893,
+            0x0000_0073,
+            0x0010_0893,
+            0x0000_0073,
+        ];
+        Ok(Image {
+            version: 1,
+            entry: 0x1000,
+            globals: List::new(alloc),
+            frames: List::new(alloc),
+            initial: List::new(alloc),
+            text: List::from_vec(Vec::from_slice(alloc, &words)?),
+        })
+    }
+
+    #[test]
+    fn runs_in_pieces(rt: HostRuntime) -> Result<(), Fail> {
+        let alloc = rt.alloc();
+        let mut machine = Machine::new(alloc, &echo(alloc)?)?;
+        // The first take of the input and the first put of the output fail.
+        let mut input = MemSource::new(alloc, b"AB", &[0])?;
+        let mut output = MemSink::new(alloc, 10, &[0])?;
+        assert_eq!(rt; machine.run(1, &mut input, &mut output), Stop::OutOfSteps);
+        assert_eq!(rt; machine.run(9, &mut input, &mut output), Stop::ReadFault);
+        assert_eq!(rt; machine.pc(), 0x1004);
+        assert_eq!(rt; machine.run(9, &mut input, &mut output), Stop::WriteFault);
+        assert_eq!(rt; machine.pc(), 0x100C);
+        assert_eq!(rt; machine.register(10).0, 65);
+        assert_eq!(rt; machine.run(2, &mut input, &mut output), Stop::OutOfSteps);
+        assert_eq!(rt; output.bytes(), b"A".as_slice());
+        assert_eq!(rt; machine.run(1, &mut input, &mut output), Stop::Exited(65));
+        assert_eq!(rt; machine.run(5, &mut input, &mut output), Stop::Exited(65));
+        assert_eq!(rt; machine.byte(0x1000), 0x93);
+        assert_eq!(rt; machine.pc(), 0x1018);
+        Ok(())
+    }
+}

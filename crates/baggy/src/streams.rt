@@ -1,0 +1,98 @@
+//! The standard streams as a source and as sinks. They tell nothing of their content.
+ghost use Rattle.std.specs.Prelude.{None, IfSome, ◌<◌, ◌≤◌, length};
+
+use bb_outside::{Sink, SinkFailed, Source, SourceFailed};
+use std::io::{Read, Write};
+
+/// Standard input, or another reader, as a source. Once it has ended it is not read again.
+#[derive(Drop)]
+pub struct StdinSource<R: Read> {
+    input: R,
+    is_over: bool,
+    faults: u64,
+}
+
+impl<R: Read> StdinSource<R> {
+    /// A source of what is read.
+    pub fn new(input: R) -> StdinSource<R> {
+        StdinSource {
+            input,
+            is_over: false,
+            faults: 0,
+        }
+    }
+}
+
+impl<R: Read> Source for StdinSource<R> {
+    ghost left = { λ _. None };
+
+    ghost is_over = { λ source. source.is_over };
+
+    ghost faults = { λ source. source.faults };
+
+    ghost none_left = { λ _ _. tt };
+
+    fn take(&mut self) -> Result<Option<u8>, SourceFailed> {
+        if self.is_over {
+            return Ok(None);
+        }
+        let mut byte = [0u8; 1];
+        match self.input.read(&mut byte) {
+            Ok(0) => {
+                self.is_over = true;
+                Ok(None)
+            }
+            Ok(_) => Ok(Some(byte[0])),
+            Err(_) => {
+                self.faults = self.faults.saturating_add(1);
+                Err(SourceFailed)
+            }
+        }
+    }
+}
+
+/// Standard output, or another writer, as a sink. Each piece is flushed at once.
+#[derive(Drop)]
+pub struct StdoutSink<W: Write> {
+    output: W,
+    faults: u64,
+}
+
+impl<W: Write> StdoutSink<W> {
+    /// A sink that writes there.
+    pub fn new(output: W) -> StdoutSink<W> {
+        StdoutSink { output, faults: 0 }
+    }
+}
+
+impl<W: Write> Sink for StdoutSink<W> {
+    ghost written = { λ _. None };
+
+    ghost faults = { λ sink. sink.faults };
+
+    fn put(&mut self, piece: &[u8]) -> Result<usize, SinkFailed> {
+        if piece.is_empty() {
+            return Ok(0);
+        }
+        match write_now(&mut self.output, piece) {
+            Some(count) => Ok(count),
+            None => {
+                self.faults = self.faults.saturating_add(1);
+                Err(SinkFailed)
+            }
+        }
+    }
+}
+
+/// Standard error as a sink.
+pub type StderrSink<W> = StdoutSink<W>;
+
+// Writes first bytes of the piece and flushes; how many, or none where none was written or the flush failed.
+fn write_now<W: Write>(output: &mut W, piece: &[u8]) -> Option<usize>
+    ensures { IfSome result (λ count. (0 < count) × (count ≤ length piece.now)) }
+{
+    match output.write(piece) {
+        Ok(0) | Err(_) => None,
+        Ok(count) => output.flush().ok().map(|()| count),
+    }
+}

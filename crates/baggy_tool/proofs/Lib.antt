@@ -1,0 +1,11 @@
+pub mod FormWords
+pub mod FormSteps
+pub mod FormFound
+pub mod FormAgain
+pub mod FormLemmas
+pub mod FormReading
+pub mod Numbers
+pub mod Files
+pub mod Noting
+pub mod Simulation
+pub mod Answering

@@ -1,0 +1,10 @@
+use Rattle.std.proofs.Common.{◌≡◌, ℕ}
+use Rattle.std.proofs.lemmas.Result.{err_from_is_err_and}
+use Rattle.baggy_tool.proofs.Noting.{noted_then, cut_first}
+use Rattle.baggy_tool.proofs.notes.put_both.Goals as goal
+
+pub returns-in_err-put-clause-noted : goal.returns-in_err-put-clause-noted
+returns-in_err-put-clause-noted g c = let p = err_from_is_err_and c.from_residual.result c.from_residual.ensures.1 in rw (p.1) (cut_first _ _ _ _ c.in_err-put.ensures.noted)
+
+pub returns-clause-noted : goal.returns-clause-noted
+returns-clause-noted g c = noted_then _ _ _ _ _ _ c.in_ok-put.ensures.noted c.put-2.ensures.noted

@@ -1,0 +1,14 @@
+use Rattle.baggy_tool.proofs.Answering.{not_noted_yet}
+use Rattle.baggy_tool.proofs.run.baggy_run.Goals as goal
+
+pub finish-requires : goal.finish-requires
+finish-requires g c = not_noted_yet _ _ _ _ _ c.answer-outcome.ensures.answers
+
+pub returns : goal.returns
+returns g c = record {
+  ending = c.answer-outcome.result.ending;
+  answers = rw c.finish.ensures.image c.answer-outcome.ensures.answers;
+  noted = c.finish.ensures.noted;
+  status = c.finish.ensures.status;
+  files = c.answer-outcome.ensures.files;
+}

@@ -1,0 +1,93 @@
+-- The endings of a call, their statuses and their lines.
+use Rattle.std.specs.Prelude.{ℕ, List, [], ◌++◌, codes, decimal}
+use Rattle.bb_words.specs.declared.kinds.ReportKind.{ReportKind}
+use Rattle.bb_words.specs.declared.kinds.ReportKind.TheVariants as report
+use Rattle.bb_words.specs.declared.kinds.TrapKind.{TrapKind}
+use Rattle.bb_words.specs.declared.kinds.TrapKind.TheVariants as trap
+use Rattle.rv_machine.specs.declared.stop.Stop.{Stop}
+use Rattle.rv_machine.specs.declared.stop.Stop.TheVariants as stop
+use Rattle.baggy_tool.specs.declared.ending.Ending.{Ending}
+use Rattle.baggy_tool.specs.declared.ending.Ending.TheVariants.{Exited, Reported, Trapped, OutOfSteps, Wrote, Checked, Refused, Usage, NoFile, FileFault, ReadFault, WriteFault, NoteFault, NoMemory}
+use Rattle.baggy_tool.specs.declared.ending.Refusal.{Refusal}
+use Rattle.baggy_tool.specs.declared.ending.Refusal.TheVariants.{Source, NotBuilt}
+use Rattle.baggy_tool.specs.declared.ending.CompileError.{CompileError}
+use Rattle.baggy_tool.specs.declared.ending.CompileError.TheVariants.{Lex, Memory}
+use Rattle.baggy_tool.specs.declared.ending.LexError.{LexError}
+use Rattle.baggy_tool.specs.declared.ending.LexError.TheVariants.{TooLong}
+
+-- the status of the process
+abbrev pub status_of : Ending → ℕ
+status_of (Exited status) = status
+status_of (Reported kind line) = 121
+status_of (Trapped kind) = 122
+status_of OutOfSteps = 123
+status_of Wrote = 0
+status_of Checked = 0
+status_of (Refused error) = 124
+status_of Usage = 125
+status_of NoFile = 126
+status_of FileFault = 126
+status_of ReadFault = 126
+status_of WriteFault = 126
+status_of NoteFault = 126
+status_of NoMemory = 127
+
+-- how a call ends whose run came back so
+abbrev pub ending_of : Stop → Ending
+ending_of (stop.Exited status) = Exited status
+ending_of (stop.Reported kind line) = Reported kind line
+ending_of (stop.Trapped kind) = Trapped kind
+ending_of stop.OutOfSteps = OutOfSteps
+ending_of stop.ReadFault = ReadFault
+ending_of stop.WriteFault = WriteFault
+
+abbrev pub report_name : ReportKind → List ℕ
+report_name report.Bounds = codes "Bounds"
+report_name report.Pointer = codes "Pointer"
+report_name report.DivZero = codes "DivZero"
+report_name report.BadFree = codes "BadFree"
+report_name report.Depth = codes "Depth"
+report_name report.Stack = codes "Stack"
+
+abbrev pub trap_name : TrapKind → List ℕ
+trap_name trap.Null = codes "Null"
+trap_name trap.Marked = codes "Marked"
+trap_name trap.Unmapped = codes "Unmapped"
+trap_name trap.Text = codes "Text"
+trap_name trap.Misaligned = codes "Misaligned"
+trap_name trap.Fetch = codes "Fetch"
+trap_name trap.Illegal = codes "Illegal"
+trap_name trap.Break = codes "Break"
+trap_name trap.Call = codes "Call"
+
+-- a text, a number and a line feed
+abbrev pub numbered : List ℕ → ℕ → List ℕ
+numbered text n = text ++ (decimal n ++ codes "\n")
+
+abbrev pub lex_line : LexError → List ℕ
+lex_line (TooLong length) = numbered (codes "baggy: refused TooLong length ") length
+
+abbrev pub compile_line : CompileError → List ℕ
+compile_line (Lex error) = lex_line error
+compile_line Memory = []
+
+abbrev pub refusal_line : Refusal → List ℕ
+refusal_line (Source error) = compile_line error
+refusal_line NotBuilt = codes "baggy: refused NotBuilt\n"
+
+-- the line that is noted of an ending, with its line feed; some endings have none
+abbrev pub line_of : Ending → List ℕ
+line_of (Exited status) = []
+line_of (Reported kind line) = (codes "baggy: report " ++ report_name kind) ++ numbered (codes " at line ") line
+line_of (Trapped kind) = (codes "baggy: trap " ++ trap_name kind) ++ codes "\n"
+line_of OutOfSteps = codes "baggy: out of steps\n"
+line_of Wrote = []
+line_of Checked = []
+line_of (Refused error) = refusal_line error
+line_of Usage = codes "usage: baggy run|compile|exec|check FILE [--steps N] [--out PATH] [--profile]\n"
+line_of NoFile = codes "baggy: no file\n"
+line_of FileFault = codes "baggy: file fault\n"
+line_of ReadFault = codes "baggy: read fault\n"
+line_of WriteFault = codes "baggy: write fault\n"
+line_of NoteFault = []
+line_of NoMemory = codes "baggy: no memory\n"

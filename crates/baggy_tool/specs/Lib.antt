@@ -1,0 +1,10 @@
+pub mod Form
+pub mod Reading
+pub mod Decimal
+pub mod Code
+pub mod Words
+pub mod Endings
+pub mod Files
+pub mod Building
+pub mod Notes
+pub mod Calls

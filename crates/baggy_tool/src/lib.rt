@@ -1,0 +1,16 @@
+//! The tool: it does what the words of the command line say.
+//!
+//! `run::baggy_run` reads the file, makes its image, runs that on the machine, and notes how the call ended.
+#![tactic(auto)]
+
+mod build;
+mod code;
+mod decimal;
+pub mod ending;
+mod form;
+mod notes;
+mod reader;
+pub mod run;
+#[cfg(test)]
+mod tests;
+mod words;

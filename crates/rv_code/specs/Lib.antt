@@ -1,0 +1,4 @@
+pub mod Bits
+pub mod Code
+pub mod Formats
+pub mod Laws

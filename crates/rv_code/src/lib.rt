@@ -1,0 +1,10 @@
+//! The instructions of RV32IM, and the words that encode them.
+#![tactic(auto)]
+
+pub mod decode;
+pub mod encode;
+mod fields;
+pub mod instr;
+mod opcodes;
+#[cfg(test)]
+mod tests;
