@@ -1,0 +1,3 @@
+pub mod TypedLemmas
+pub mod TypedPrograms
+pub mod TypedViewed

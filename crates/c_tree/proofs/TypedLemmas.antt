@@ -1,0 +1,37 @@
+-- Facts on the typed tree.
+use Rattle.std.proofs.Common.{◌≡◌, ℕ, suc, ◌+◌, ◌*◌, ◌≤◌, ◌<◌, List, [], length, get_or, refl, arith, subst}
+use Rattle.std.specs.Prelude.{All, Option, Some, None, slice_get}
+use Rattle.std.proofs.lemmas.Option.{slice_get_within, get_or_from_slice_get}
+use Rattle.c_tree.specs.Types.{CType}
+use Rattle.c_tree.specs.TypedTree.{CStruct, CMember}
+use Rattle.c_tree.specs.Sizes.{largest, size_of, struct_size, IsType, rounded_up, greatest_align, end_of}
+use Rattle.c_tree.specs.Typed.{LiesIn, IsStruct}
+use Rattle.c_tree.specs.TypedLaws.{TypesAreSmall, UndefinedIsEmpty}
+
+-- what holds of each element holds of the one that is found
+pub All-slice_get : {X : Type 0} (P : X → Type 0) (xs : List X) (k : ℕ) (x : X) → All P xs → slice_get xs k ≡ Some x → P x
+All-slice_get P xs k x all found = subst P (get_or_from_slice_get xs k x x found) (all k x (slice_get_within xs k x found))
+
+-- where there is no struct, none lies in another
+pub none_lies : {k j : ℕ} → LiesIn [] k j → ⊥
+none_lies (LiesIn.member s m i found is_member within) = cc
+none_lies (LiesIn.deeper first second) = none_lies first
+
+struct_is_small : (structs : List CStruct) (k : ℕ) (found : Option CStruct) → All (IsStruct structs) structs → slice_get structs k ≡ found → struct_size found ≤ largest
+struct_is_small structs k None all found = omega arith
+struct_is_small structs k (Some s) all found = (All-slice_get (IsStruct structs) structs k s all found).fits
+
+pub types_are_small : TypesAreSmall
+types_are_small structs CType.Void all formed = omega arith
+types_are_small structs CType.Char all formed = omega arith
+types_are_small structs CType.Int all formed = omega arith
+types_are_small structs CType.Unsigned all formed = omega arith
+types_are_small structs (CType.Struct k) all formed = struct_is_small structs k (slice_get structs k) all refl
+types_are_small structs (CType.Pointer t) all formed = omega arith
+types_are_small structs (CType.Array t n) all formed = formed.3
+
+pub undefined_is_empty : UndefinedIsEmpty
+undefined_is_empty structs s is_struct empty =
+    let align : s.align ≡ 1 = rw empty at is_struct.align in
+    let size : s.size ≡ 0 = rw (align, empty) at is_struct.size in
+    (size, align)
