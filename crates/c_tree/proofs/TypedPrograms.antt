@@ -16,33 +16,39 @@ no_local p f k l found = absurd cc
 
 forty_two_body : IsFunction forty_two (main_function [] (return_number 42))
 forty_two_body = record {
-    result_type = tt;
-    result = IsResult.scalar refl;
-    params_few = omega arith;
-    params_within = omega arith;
-    params = All-nil _;
-    locals = no_local _ _;
-    block = refl;
-    body = (((tt, IsLiteral.int refl), (refl, refl)), tt) }
+  result_type = tt;
+  result = IsResult.scalar refl;
+  params_few = omega arith;
+  params_within = omega arith;
+  params = All-nil _;
+  locals = no_local _ _;
+  block = refl;
+  body = (((tt, IsLiteral.int refl), (refl, refl)), tt);
+}
 
 pub forty_two_is_typed : Typed forty_two
 forty_two_is_typed = record {
-    structs = All-nil (IsStruct []);
-    finite = λ k lies. none_lies lies;
-    globals = All-nil (IsGlobalObject forty_two);
-    texts = All-nil _;
-    functions = All-cons (IsFunction forty_two) _ [] forty_two_body (All-nil (IsFunction forty_two));
-    functions_few = omega arith;
-    main = record { function = _; found = refl; name = refl; result = refl; params = refl } }
+  structs = All-nil (IsStruct []);
+  finite = λ k lies. none_lies lies;
+  globals = All-nil (IsGlobalObject forty_two);
+  texts = All-nil _;
+  functions = All-cons (IsFunction forty_two) _ [] forty_two_body (All-nil (IsFunction forty_two));
+  functions_few = omega arith;
+  main = record { function = _; found = refl; name = refl; result = refl; params = refl };
+}
 
 pub mixed_is_right : Mixed
-mixed_is_right = (record {
+mixed_is_right = (
+  record {
     types = All-from_recursion (λ m. IsType (mixed ∷ []) m.ty) mixed.members (tt, (tt, ((tt, refl, omega arith, omega arith), (omega arith, tt))));
     complete = All-from_recursion (λ m. IsComplete (mixed ∷ []) m.ty) mixed.members (refl, (refl, (refl, (refl, tt))));
     in_order = (refl, (refl, (refl, (refl, tt))));
     align = refl;
     size = refl;
-    fits = omega arith }, refl)
+    fits = omega arith;
+  },
+  refl,
+)
 
 -- the one statement of a typed `main` keeps the rules
 module _ (locals : List CLocal) (body : CStmts) where
@@ -65,9 +71,10 @@ pointer p locals result l found initialised = pointed p locals result l.ty (let 
 
 pub not_typed : NotTyped
 not_typed = (
-    λ typed. assignment (doing assigns_to_number) [] CType.Int (body_of [] (CStmts.next assigns_to_number CStmts.none) typed).0,
-    λ typed. cc ((body_of [] (CStmts.next returns_nothing CStmts.none) typed).0.1),
-    λ typed. cc ((body_of [] (CStmts.next (CStmt.Break (token 6)) CStmts.none) typed).0),
-    λ typed.
-        let declared = (body_of (pointer_local ∷ []) points typed).0 in
-        pointer points_to_number (pointer_local ∷ []) CType.Int declared.local declared.found declared.initialised)
+  λ typed. assignment (doing assigns_to_number) [] CType.Int (body_of [] (CStmts.next assigns_to_number CStmts.none) typed).0,
+  λ typed. cc ((body_of [] (CStmts.next returns_nothing CStmts.none) typed).0.1),
+  λ typed. cc ((body_of [] (CStmts.next (CStmt.Break (token 6)) CStmts.none) typed).0),
+  λ typed.
+      let declared = (body_of (pointer_local ∷ []) points typed).0 in
+      pointer points_to_number (pointer_local ∷ []) CType.Int declared.local declared.found declared.initialised,
+)

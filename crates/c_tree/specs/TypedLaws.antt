@@ -26,12 +26,13 @@ number n value = CExpr.expr (token n) CType.Int (CForm.Number value)
 -- `int main(void)` with these locals and this body
 abbrev pub main_function : List CLocal → CStmts → CFunction
 main_function locals body = record {
-    name = codes "main";
-    line = 1;
-    result = CType.Int;
-    params = 0;
-    locals = locals;
-    body = CStmt.Block (token 5) body }
+  name = codes "main";
+  line = 1;
+  result = CType.Int;
+  params = 0;
+  locals = locals;
+  body = CStmt.Block (token 5) body;
+}
 
 -- a program of it alone
 abbrev pub main_of : List CLocal → CStmts → CProgram
@@ -59,15 +60,16 @@ ManyLocals = (values_of (many_locals 246) ≡ 250) × (values_of (many_locals 24
 -- `struct s { char a; int b; char c[3]; struct s *d; };`
 abbrev pub mixed : CStruct
 mixed = record {
-    tag = codes "s";
-    members =
-        record { name = codes "a"; ty = CType.Char; offset = 0 }
-        ∷ record { name = codes "b"; ty = CType.Int; offset = 4 }
-        ∷ record { name = codes "c"; ty = CType.Array CType.Char 3; offset = 8 }
-        ∷ record { name = codes "d"; ty = CType.Pointer (CType.Struct 0); offset = 12 }
-        ∷ [];
-    size = 16;
-    align = 4 }
+  tag = codes "s";
+  members =
+      record { name = codes "a"; ty = CType.Char; offset = 0 }
+      ∷ record { name = codes "b"; ty = CType.Int; offset = 4 }
+      ∷ record { name = codes "c"; ty = CType.Array CType.Char 3; offset = 8 }
+      ∷ record { name = codes "d"; ty = CType.Pointer (CType.Struct 0); offset = 12 }
+      ∷ [];
+  size = 16;
+  align = 4;
+}
 
 -- Its offsets, its size and its alignment are those of the rules, and an array of five has 80 bytes.
 abbrev pub Mixed : Type 0
@@ -91,9 +93,10 @@ pointer_local = record { name = codes "p"; ty = CType.Pointer CType.Int; size = 
 
 abbrev pub points : CStmts
 points = CStmts.next (CStmt.Declare (record {
-    at = token 8;
-    local = 0;
-    initialiser = Some (record { at = token 9; value = CInitial.Value (number 10 5) }) })) CStmts.none
+  at = token 8;
+  local = 0;
+  initialiser = Some (record { at = token 9; value = CInitial.Value (number 10 5) });
+})) CStmts.none
 
 abbrev pub points_to_number : CProgram
 points_to_number = main_of (pointer_local ∷ []) points

@@ -21,14 +21,15 @@
 //! none but that of arrays; and the conversion to `void` of a value that is not used.
 ghost use Rattle.std.specs.Prelude.{◌≡◌, IfOk};
 ghost use Rattle.c_tree.specs.TypesViewed.{ty_of};
-ghost use Rattle.c_tree.specs.TypedTree.{CExpr, CForm};
-ghost use Rattle.c_tree.specs.TypedViews.{expr_of, exprs_of};
-
-use std::alloc::{AllocError, Global};
+ghost use Rattle.c_tree.specs.TypedTree.CExpr.{expr};
+ghost use Rattle.c_tree.specs.TypedTree.CForm.{Convert, Index, Member, Arrow, StepBefore, StepAfter, Unary, Binary, Conditional, Assign, Comma, Cast, SizeOf};
+ghost use Rattle.c_tree.specs.TypedOperands.{is_place, is_null};
+ghost use Rattle.c_tree.specs.TypedViews.{expr_of};
 
 use crate::operators::{AssignOperator, BinaryOperator, StepOperator, UnaryOperator};
 use crate::place::At;
 use crate::types::Ty;
+use std::alloc::{AllocError, Global};
 
 /// A function of the library.
 #[derive(Clone, Copy, Debug, PartialEq, Eq)]
@@ -133,13 +134,213 @@ pub enum TypedForm {
     SizeOfType(Ty),
 }
 
-/// The expression `form` at `at`, of the type `ty`, which takes no memory.
 impl TypedExpr {
-    /// `a, b`
-    pub fn comma(alloc: Global, at: At, left: TypedExpr, right: TypedExpr, ty: Ty) -> Result<TypedExpr, AllocError>
-        ensures { IfOk result (λ e. expr_of e ≡ CExpr.expr at (ty_of ty) (CForm.Comma (expr_of left) (expr_of right))) }
+    /// An operand that the language converts to `ty`.
+    pub fn convert(
+        alloc: Global,
+        at: At,
+        ty: Ty,
+        conversion: Conversion,
+        operand: TypedExpr,
+    ) -> Result<TypedExpr, AllocError>
+        ensures { IfOk result (λ e. expr_of e ≡ expr at (ty_of ty) (Convert conversion (expr_of operand))) }
+    {
+        let form = TypedForm::Convert(conversion, Box::new(alloc, operand)?);
+        Ok(TypedExpr { at, ty, form })
+    }
+
+    /// `base[index]`
+    pub fn index(
+        alloc: Global,
+        at: At,
+        ty: Ty,
+        base: TypedExpr,
+        index: TypedExpr,
+    ) -> Result<TypedExpr, AllocError>
+        ensures { IfOk result (λ e. expr_of e ≡ expr at (ty_of ty) (Index (expr_of base) (expr_of index))) }
+    {
+        let form = TypedForm::Index(Box::new(alloc, base)?, Box::new(alloc, index)?);
+        Ok(TypedExpr { at, ty, form })
+    }
+
+    /// `of.m`, for the member of this number.
+    pub fn member(
+        alloc: Global,
+        at: At,
+        ty: Ty,
+        of: TypedExpr,
+        member: u32,
+    ) -> Result<TypedExpr, AllocError>
+        ensures { IfOk result (λ e. expr_of e ≡ expr at (ty_of ty) (Member (expr_of of) member)) }
+    {
+        let form = TypedForm::Member(Box::new(alloc, of)?, member);
+        Ok(TypedExpr { at, ty, form })
+    }
+
+    /// `of->m`, for the member of this number.
+    pub fn arrow(
+        alloc: Global,
+        at: At,
+        ty: Ty,
+        of: TypedExpr,
+        member: u32,
+    ) -> Result<TypedExpr, AllocError>
+        ensures { IfOk result (λ e. expr_of e ≡ expr at (ty_of ty) (Arrow (expr_of of) member)) }
+    {
+        let form = TypedForm::Arrow(Box::new(alloc, of)?, member);
+        Ok(TypedExpr { at, ty, form })
+    }
+
+    /// `++place` or `--place`
+    pub fn step_before(
+        alloc: Global,
+        at: At,
+        ty: Ty,
+        operator: StepOperator,
+        place: TypedExpr,
+    ) -> Result<TypedExpr, AllocError>
+        ensures { IfOk result (λ e. expr_of e ≡ expr at (ty_of ty) (StepBefore operator (expr_of place))) }
+    {
+        let form = TypedForm::StepBefore(operator, Box::new(alloc, place)?);
+        Ok(TypedExpr { at, ty, form })
+    }
+
+    /// `place++` or `place--`
+    pub fn step_after(
+        alloc: Global,
+        at: At,
+        ty: Ty,
+        operator: StepOperator,
+        place: TypedExpr,
+    ) -> Result<TypedExpr, AllocError>
+        ensures { IfOk result (λ e. expr_of e ≡ expr at (ty_of ty) (StepAfter operator (expr_of place))) }
+    {
+        let form = TypedForm::StepAfter(operator, Box::new(alloc, place)?);
+        Ok(TypedExpr { at, ty, form })
+    }
+
+    /// An operator before its operand.
+    pub fn unary(
+        alloc: Global,
+        at: At,
+        ty: Ty,
+        operator: UnaryOperator,
+        operand: TypedExpr,
+    ) -> Result<TypedExpr, AllocError>
+        ensures { IfOk result (λ e. expr_of e ≡ expr at (ty_of ty) (Unary operator (expr_of operand))) }
+    {
+        let form = TypedForm::Unary(operator, Box::new(alloc, operand)?);
+        Ok(TypedExpr { at, ty, form })
+    }
+
+    /// An operator between its operands.
+    pub fn binary(
+        alloc: Global,
+        at: At,
+        ty: Ty,
+        operator: BinaryOperator,
+        left: TypedExpr,
+        right: TypedExpr,
+    ) -> Result<TypedExpr, AllocError>
+        ensures { IfOk result (λ e. expr_of e ≡ expr at (ty_of ty) (Binary operator (expr_of left) (expr_of right))) }
+    {
+        let form = TypedForm::Binary(operator, Box::new(alloc, left)?, Box::new(alloc, right)?);
+        Ok(TypedExpr { at, ty, form })
+    }
+
+    /// `condition ? left : right`
+    pub fn conditional(
+        alloc: Global,
+        at: At,
+        ty: Ty,
+        condition: TypedExpr,
+        left: TypedExpr,
+        right: TypedExpr,
+    ) -> Result<TypedExpr, AllocError>
+        ensures { IfOk result (λ e. expr_of e ≡ expr at (ty_of ty) (Conditional (expr_of condition) (expr_of left) (expr_of right))) }
+    {
+        let form = TypedForm::Conditional(
+            Box::new(alloc, condition)?,
+            Box::new(alloc, left)?,
+            Box::new(alloc, right)?,
+        );
+        Ok(TypedExpr { at, ty, form })
+    }
+
+    /// An assignment.
+    pub fn assign(
+        alloc: Global,
+        at: At,
+        ty: Ty,
+        operator: AssignOperator,
+        left: TypedExpr,
+        right: TypedExpr,
+    ) -> Result<TypedExpr, AllocError>
+        ensures { IfOk result (λ e. expr_of e ≡ expr at (ty_of ty) (Assign operator (expr_of left) (expr_of right))) }
+    {
+        let form = TypedForm::Assign(operator, Box::new(alloc, left)?, Box::new(alloc, right)?);
+        Ok(TypedExpr { at, ty, form })
+    }
+
+    /// `left, right`
+    pub fn comma(
+        alloc: Global,
+        at: At,
+        ty: Ty,
+        left: TypedExpr,
+        right: TypedExpr,
+    ) -> Result<TypedExpr, AllocError>
+        ensures { IfOk result (λ e. expr_of e ≡ expr at (ty_of ty) (Comma (expr_of left) (expr_of right))) }
     {
         let form = TypedForm::Comma(Box::new(alloc, left)?, Box::new(alloc, right)?);
         Ok(TypedExpr { at, ty, form })
+    }
+
+    /// A cast to `ty`.
+    pub fn cast(alloc: Global, at: At, ty: Ty, operand: TypedExpr) -> Result<TypedExpr, AllocError>
+        ensures { IfOk result (λ e. expr_of e ≡ expr at (ty_of ty) (Cast (expr_of operand))) }
+    {
+        let form = TypedForm::Cast(Box::new(alloc, operand)?);
+        Ok(TypedExpr { at, ty, form })
+    }
+
+    /// `sizeof operand`
+    pub fn size_of(
+        alloc: Global,
+        at: At,
+        ty: Ty,
+        operand: TypedExpr,
+    ) -> Result<TypedExpr, AllocError>
+        ensures { IfOk result (λ e. expr_of e ≡ expr at (ty_of ty) (SizeOf (expr_of operand))) }
+    {
+        let form = TypedForm::SizeOf(Box::new(alloc, operand)?);
+        Ok(TypedExpr { at, ty, form })
+    }
+
+    /// Whether the expression names an object or a part of one (C11 6.3.2.1).
+    pub fn is_place(&self) -> bool
+        ensures { result ≡ is_place (expr_of self.now) }
+    {
+        match &self.form {
+            TypedForm::Local(_)
+            | TypedForm::Global(_)
+            | TypedForm::Text(_)
+            | TypedForm::Index(_, _)
+            | TypedForm::Arrow(_, _)
+            | TypedForm::Unary(UnaryOperator::Dereference, _) => true,
+            TypedForm::Member(of, _) => of.is_place(),
+            _ => false,
+        }
+    }
+
+    /// Whether the expression is a null constant (C11 6.3.2.3).
+    pub fn is_null(&self) -> bool
+        ensures { result ≡ is_null (expr_of self.now) }
+    {
+        match &self.form {
+            TypedForm::Number(value) => *value == 0,
+            TypedForm::Null => true,
+            _ => false,
+        }
     }
 }

@@ -1,8 +1,12 @@
 //! The typed tree of statements.
 ghost use Rattle.std.specs.Prelude.{◌≡◌, IfOk};
+ghost use Rattle.std.specs.Option.{option_map};
+ghost use Rattle.c_tree.specs.TypedTree.CStmt.{If, IfElse, While, Do, For};
+ghost use Rattle.c_tree.specs.TypedViews.{expr_of, start_of, stmt_of};
 
 use crate::place::At;
 use crate::typed_expr::TypedExpr;
+use std::alloc::{AllocError, Global};
 
 /// What an object is initialised with (C11 6.7.9).
 #[derive(Debug, Drop)]
@@ -84,4 +88,101 @@ pub enum TypedStmt {
     Continue(At),
     /// `return;` and `return e;`
     Return(At, Option<TypedExpr>),
+}
+
+#[tactic(auto, using(crate::proofs::TypedViewed::typed_views))]
+impl TypedStmt {
+    /// `if (condition) body`
+    pub fn if_then(
+        alloc: Global,
+        at: At,
+        condition: TypedExpr,
+        body: TypedStmt,
+    ) -> Result<TypedStmt, AllocError>
+        ensures { IfOk result (λ s. stmt_of s ≡ If at (expr_of condition) (stmt_of body)) }
+    {
+        let body = Box::new(alloc, body)?;
+        let otherwise = None;
+        Ok(TypedStmt::If {
+            at,
+            condition,
+            body,
+            otherwise,
+        })
+    }
+
+    /// `if (condition) body else otherwise`
+    pub fn if_else(
+        alloc: Global,
+        at: At,
+        condition: TypedExpr,
+        body: TypedStmt,
+        otherwise: TypedStmt,
+    ) -> Result<TypedStmt, AllocError>
+        ensures { IfOk result (λ s. stmt_of s ≡ IfElse at (expr_of condition) (stmt_of body) (stmt_of otherwise)) }
+    {
+        let body = Box::new(alloc, body)?;
+        let otherwise = Some(Box::new(alloc, otherwise)?);
+        Ok(TypedStmt::If {
+            at,
+            condition,
+            body,
+            otherwise,
+        })
+    }
+
+    /// `while (condition) body`
+    pub fn while_loop(
+        alloc: Global,
+        at: At,
+        condition: TypedExpr,
+        body: TypedStmt,
+    ) -> Result<TypedStmt, AllocError>
+        ensures { IfOk result (λ s. stmt_of s ≡ While at (expr_of condition) (stmt_of body)) }
+    {
+        let body = Box::new(alloc, body)?;
+        Ok(TypedStmt::While {
+            at,
+            condition,
+            body,
+        })
+    }
+
+    /// `do body while (condition);`
+    pub fn do_loop(
+        alloc: Global,
+        at: At,
+        body: TypedStmt,
+        condition: TypedExpr,
+    ) -> Result<TypedStmt, AllocError>
+        ensures { IfOk result (λ s. stmt_of s ≡ Do at (stmt_of body) (expr_of condition)) }
+    {
+        let body = Box::new(alloc, body)?;
+        Ok(TypedStmt::Do {
+            at,
+            body,
+            condition,
+        })
+    }
+
+    /// `for (start; condition; step) body`
+    pub fn for_loop(
+        alloc: Global,
+        at: At,
+        start: ForStart,
+        condition: Option<TypedExpr>,
+        step: Option<TypedExpr>,
+        body: TypedStmt,
+    ) -> Result<TypedStmt, AllocError>
+        ensures { IfOk result (λ s. stmt_of s ≡ For at (start_of start) (option_map expr_of condition) (option_map expr_of step) (stmt_of body)) }
+    {
+        let body = Box::new(alloc, body)?;
+        Ok(TypedStmt::For {
+            at,
+            start,
+            condition,
+            step,
+            body,
+        })
+    }
 }

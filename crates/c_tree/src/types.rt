@@ -4,10 +4,9 @@ ghost use Rattle.c_tree.specs.Types.{same, is_number, is_pointer};
 ghost use Rattle.c_tree.specs.Types.CType.{Pointer, Array};
 ghost use Rattle.c_tree.specs.TypesViewed.{ty_of};
 
+use crate::place::Name;
 use bb_words::list::List;
 use std::alloc::{AllocError, Global};
-
-use crate::place::Name;
 
 /// A type. Contracts see it as a `CType`, by `ty_of`.
 #[derive(Debug, Drop)]
@@ -79,6 +78,7 @@ impl Ty {
     }
 
     /// Whether two types are one (C11 6.2.7).
+    #[tactic(auto, using(crate::proofs::TypesCases::other_types))]
     pub fn is_same(&self, other: &Ty) -> bool
         ensures { result ≡ same (ty_of self.now) (ty_of other.now) }
     {
