@@ -6,7 +6,7 @@ use Rattle.c_tree.specs.Types.{CType, is_struct}
 use Rattle.c_tree.specs.TypedTree.{CInitial, CStmt, CStmts, CStruct, CMember, CGlobal, CLocal, CFunction, CProgram}
 use Rattle.c_tree.specs.Sizes.{IsType, IsComplete}
 use Rattle.c_tree.specs.TypedRules.{IsResult, IsSet}
-use Rattle.c_tree.specs.TypedBody.{IsLiteral, IsInitialised, IsStmt, AreStmts}
+use Rattle.c_tree.specs.TypedBody.{IsLiteral, IsInitialized, IsStmt, AreStmts}
 use Rattle.c_tree.specs.Typed.{IsStruct, IsFunction, IsLocalObject, IsMain, IsGlobalObject, Typed}
 use Rattle.c_tree.specs.TypedLaws.{forty_two, main_function, main_of, return_number, doing, number, token, mixed, assigns_to_number, returns_nothing, pointer_local, points, points_to_number, Mixed, NotTyped}
 use Rattle.c_tree.proofs.TypedLemmas.{none_lies}
@@ -59,22 +59,22 @@ assignment : (p : CProgram) (locals : List CLocal) (result : CType) → IsStmt p
 assignment p locals result typed = elim typed.0.1.2 [ IsSet.scalar assignable given same ↦ cc | IsSet.struct assignable copied same ↦ cc ]
 
 -- a pointer is not given a number other than 0
-pointed : (p : CProgram) (locals : List CLocal) (result t : CType) → t ≡ CType.Pointer CType.Int → IsInitialised p locals result t (CInitial.Value (number 10 5)) → ⊥
-pointed p locals result t is_pointer (IsInitialised.parts value) = cc
-pointed p locals result t is_pointer (IsInitialised.copy typed copied) =
+pointed : (p : CProgram) (locals : List CLocal) (result t : CType) → t ≡ CType.Pointer CType.Int → IsInitialized p locals result t (CInitial.Value (number 10 5)) → ⊥
+pointed p locals result t is_pointer (IsInitialized.parts value) = cc
+pointed p locals result t is_pointer (IsInitialized.copy typed copied) =
     let wrong : is_struct (CType.Pointer CType.Int) ≡ true = rw is_pointer at copied.struct in cc
 
 pointer : (p : CProgram) (locals : List CLocal) (result : CType) (l : CLocal)
     → slice_get (pointer_local ∷ []) 0 ≡ Some l
-    → IsInitialised p locals result l.ty (CInitial.Value (number 10 5)) → ⊥
-pointer p locals result l found initialised = pointed p locals result l.ty (let same : pointer_local ≡ l = cc in ap (λ (x : CLocal). x.ty) (sym same)) initialised
+    → IsInitialized p locals result l.ty (CInitial.Value (number 10 5)) → ⊥
+pointer p locals result l found initialized = pointed p locals result l.ty (let same : pointer_local ≡ l = cc in ap (λ (x : CLocal). x.ty) (sym same)) initialized
 
 pub not_typed : NotTyped
 not_typed = (
-  λ typed. assignment (doing assigns_to_number) [] CType.Int (body_of [] (CStmts.next assigns_to_number CStmts.none) typed).0,
-  λ typed. cc ((body_of [] (CStmts.next returns_nothing CStmts.none) typed).0.1),
-  λ typed. cc ((body_of [] (CStmts.next (CStmt.Break (token 6)) CStmts.none) typed).0),
+  λ typed. assignment (doing assigns_to_number) [] CType.Int (body_of [] (CStmts.more assigns_to_number CStmts.none) typed).0,
+  λ typed. cc ((body_of [] (CStmts.more returns_nothing CStmts.none) typed).0.1),
+  λ typed. cc ((body_of [] (CStmts.more (CStmt.Break (token 6)) CStmts.none) typed).0),
   λ typed.
       let declared = (body_of (pointer_local ∷ []) points typed).0 in
-      pointer points_to_number (pointer_local ∷ []) CType.Int declared.local declared.found declared.initialised,
+      pointer points_to_number (pointer_local ∷ []) CType.Int declared.local declared.found declared.initialized,
 )

@@ -7,10 +7,10 @@ use Rattle.c_tree.specs.declared.typed_expr.Called.{Called}
 use Rattle.c_tree.specs.declared.typed_expr.TypedExpr.{TypedExpr}
 use Rattle.c_tree.specs.declared.typed_expr.TypedForm.{TypedForm, the_lemmas as form_lemmas, Row_of-TypedExpr, end_of-TypedExpr, more_of-TypedExpr, items-the_row-TypedExpr}
 use Rattle.c_tree.specs.declared.typed_expr.TypedForm.TheVariants as form
-use Rattle.c_tree.specs.declared.typed_stmt.InitialValue.{InitialValue, the_lemmas as initial_lemmas}
-use Rattle.c_tree.specs.declared.typed_stmt.InitialValue.TheVariants as initial
-use Rattle.c_tree.specs.declared.typed_stmt.Declaration.{Declaration}
-use Rattle.c_tree.specs.declared.typed_stmt.ForStart.{ForStart}
+use Rattle.c_tree.specs.declared.typed_stmt.TypedInitial.{TypedInitial, the_lemmas as initial_lemmas}
+use Rattle.c_tree.specs.declared.typed_stmt.TypedInitial.TheVariants as initial
+use Rattle.c_tree.specs.declared.typed_stmt.TypedDeclaration.{TypedDeclaration}
+use Rattle.c_tree.specs.declared.typed_stmt.TypedStart.{TypedStart}
 use Rattle.c_tree.specs.declared.typed_stmt.TypedStmt.{TypedStmt, the_lemmas as stmt_lemmas}
 use Rattle.c_tree.specs.declared.typed_stmt.TypedStmt.TheVariants as stmt
 use Rattle.c_tree.specs.TypedTree.{CExpr, CForm, CExprs, CInitial, CInitials, CStmt, CStmts}
@@ -19,7 +19,7 @@ use Rattle.c_tree.specs.TypedViews.{viewed, form_view, row_view, expr_of, exprs_
 -- a call's arguments, in the row of its `Vec` and as a list
 row_is : (n : _) (r : Row_of-TypedExpr n) → row_view r ≡ exprs_of (items-the_row-TypedExpr n r)
 row_is _ end_of-TypedExpr = refl
-row_is n (more_of-TypedExpr at t e rest) = ap (CExprs.next (viewed at t (form_view e))) (row_is _ rest)
+row_is n (more_of-TypedExpr at t e rest) = ap (CExprs.more (viewed at t (form_view e))) (row_is _ rest)
 
 pub view-Call : (f : Called) (es : Vec TypedExpr Global) → form_view (form.Call f es) ≡ CForm.Call f (exprs_of es.items)
 view-Call f es = search (rules, form_lemmas, row_is)
@@ -30,13 +30,13 @@ view-Value e = search (rules, initial_lemmas)
 pub view-Text : (at : At) (bytes : Vec ℕ Global) → initial_of (initial.Text at bytes) ≡ CInitial.Text at bytes.items
 view-Text at bytes = search (rules, initial_lemmas)
 
-pub view-Braces : (at : At) (parts : Vec InitialValue Global) → initial_of (initial.Braces at parts) ≡ CInitial.Braces at (initials_of parts.items)
+pub view-Braces : (at : At) (parts : Vec TypedInitial Global) → initial_of (initial.Braces at parts) ≡ CInitial.Braces at (initials_of parts.items)
 view-Braces at parts = search (rules, initial_lemmas)
 
 pub view-Block : (at : At) (xs : Vec TypedStmt Global) → stmt_of (stmt.Block at xs) ≡ CStmt.Block at (stmts_of xs.items)
 view-Block at xs = search (rules, stmt_lemmas)
 
-pub view-Declare : (d : Declaration) → stmt_of (stmt.Declare d) ≡ CStmt.Declare (declaration_of d)
+pub view-Declare : (d : TypedDeclaration) → stmt_of (stmt.Declare d) ≡ CStmt.Declare (declaration_of d)
 view-Declare d = search (rules, stmt_lemmas)
 
 pub view-Empty : (at : At) → stmt_of (stmt.Empty at) ≡ CStmt.Empty at
@@ -57,7 +57,7 @@ view-While at c x = search (rules, stmt_lemmas)
 pub view-Do : (at : At) (x : Box TypedStmt Global) (c : TypedExpr) → stmt_of (stmt.Do at x c) ≡ CStmt.Do at (stmt_of x.value) (expr_of c)
 view-Do at x c = search (rules, stmt_lemmas)
 
-pub view-For : (at : At) (start : ForStart) (c step : Option TypedExpr) (x : Box TypedStmt Global) → stmt_of (stmt.For at start c step x) ≡ CStmt.For at (start_of start) (option_map expr_of c) (option_map expr_of step) (stmt_of x.value)
+pub view-For : (at : At) (start : TypedStart) (c step : Option TypedExpr) (x : Box TypedStmt Global) → stmt_of (stmt.For at start c step x) ≡ CStmt.For at (start_of start) (option_map expr_of c) (option_map expr_of step) (stmt_of x.value)
 view-For at start c step x = search (rules, stmt_lemmas)
 
 pub view-Break : (at : At) → stmt_of (stmt.Break at) ≡ CStmt.Break at

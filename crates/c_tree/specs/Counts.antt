@@ -1,6 +1,6 @@
 -- How much of a function counts against the limits: nodes, values and temporaries.
 use Rattle.std.specs.Prelude.{ℕ, suc, ◌+◌, max, Bool, true, false, if◌then◌else◌, Option, Some, None, List, [], ◌∷◌, length, drop}
-use Rattle.c_tree.specs.TypedTree.{CExpr, CForm, CExprs, CInitial, CInitials, CInitialiser, CDeclaration, CStart, CStmt, CStmts, CLocal, CFunction, CProgram}
+use Rattle.c_tree.specs.TypedTree.{CExpr, CForm, CExprs, CInitial, CInitials, CInitializer, CDeclaration, CStart, CStmt, CStmts, CLocal, CFunction, CProgram}
 
 -- The nodes of an expression: one for each name, constant, string, operator, call, cast and `sizeof`. Called names and
 -- conversions are none, and the operand of `sizeof` has none.
@@ -29,14 +29,14 @@ abbrev mutual
   nodes_of_form (CForm.Assign op a b) = 1 + nodes_of a + nodes_of b
   nodes_of_form (CForm.Comma a b) = 1 + nodes_of a + nodes_of b
   nodes_of_form (CForm.Cast e) = 1 + nodes_of e
-  nodes_of_form (CForm.SizeOf e) = 1
-  nodes_of_form (CForm.SizeOfType t) = 1
+  nodes_of_form (CForm.SizeofExpression e) = 1
+  nodes_of_form (CForm.SizeofType t) = 1
 
   pub nodes_of_all : CExprs → ℕ
   nodes_of_all CExprs.none = 0
-  nodes_of_all (CExprs.next e es) = nodes_of e + nodes_of_all es
+  nodes_of_all (CExprs.more e es) = nodes_of e + nodes_of_all es
 
--- A string that initialises an array of char is one node, and one more for each of its bytes. Braces are none.
+-- A string that initializes an array of char is one node, and one more for each of its bytes. Braces are none.
 abbrev mutual
   pub nodes_of_initial : CInitial → ℕ
   nodes_of_initial (CInitial.Value e) = nodes_of e
@@ -45,15 +45,15 @@ abbrev mutual
 
   pub nodes_of_parts : CInitials → ℕ
   nodes_of_parts CInitials.none = 0
-  nodes_of_parts (CInitials.next x xs) = nodes_of_initial x + nodes_of_parts xs
+  nodes_of_parts (CInitials.more x xs) = nodes_of_initial x + nodes_of_parts xs
 
-abbrev pub nodes_of_initialiser : Option CInitialiser → ℕ
-nodes_of_initialiser None = 0
-nodes_of_initialiser (Some i) = nodes_of_initial i.value
+abbrev pub nodes_of_initializer : Option CInitializer → ℕ
+nodes_of_initializer None = 0
+nodes_of_initializer (Some i) = nodes_of_initial i.value
 
--- a declared name with its initialiser
+-- a declared name with its initializer
 abbrev pub nodes_of_declaration : CDeclaration → ℕ
-nodes_of_declaration d = 1 + nodes_of_initialiser d.initialiser
+nodes_of_declaration d = 1 + nodes_of_initializer d.initializer
 
 abbrev pub nodes_of_declarations : List CDeclaration → ℕ
 nodes_of_declarations [] = 0
@@ -87,7 +87,7 @@ abbrev mutual
 
   pub nodes_of_stmts : CStmts → ℕ
   nodes_of_stmts CStmts.none = 0
-  nodes_of_stmts (CStmts.next x xs) = nodes_of_stmt x + nodes_of_stmts xs
+  nodes_of_stmts (CStmts.more x xs) = nodes_of_stmt x + nodes_of_stmts xs
 
 -- the nodes of a function: one for the definition, one for each parameter, and those of the body
 abbrev pub nodes_of_function : CFunction → ℕ
@@ -128,20 +128,20 @@ abbrev mutual
   temps_of_form (CForm.Assign op a b) = max (temps_of a) (1 + temps_of b)
   temps_of_form (CForm.Comma a b) = max (temps_of a) (1 + temps_of b)
   temps_of_form (CForm.Cast e) = temps_of e
-  temps_of_form (CForm.SizeOf e) = temps_of e
-  temps_of_form (CForm.SizeOfType t) = 4
+  temps_of_form (CForm.SizeofExpression e) = temps_of e
+  temps_of_form (CForm.SizeofType t) = 4
 
   -- a call without arguments has no operands
   pub temps_of_call : CExprs → ℕ
   temps_of_call CExprs.none = 4
-  temps_of_call (CExprs.next e es) = max (temps_of e) (temps_from 1 es)
+  temps_of_call (CExprs.more e es) = max (temps_of e) (temps_from 1 es)
 
   -- the greatest of i and the temporaries of the first of these arguments, i + 1 and those of the next, and so on
   pub temps_from : ℕ → CExprs → ℕ
   temps_from i CExprs.none = 0
-  temps_from i (CExprs.next e es) = max (i + temps_of e) (temps_from (suc i) es)
+  temps_from i (CExprs.more e es) = max (i + temps_of e) (temps_from (suc i) es)
 
--- the greatest temporaries of the expressions of an initialiser, a declaration, a statement; 0 where there is none
+-- the greatest temporaries of the expressions of an initializer, a declaration, a statement; 0 where there is none
 abbrev mutual
   pub temps_of_initial : CInitial → ℕ
   temps_of_initial (CInitial.Value e) = temps_of e
@@ -150,15 +150,15 @@ abbrev mutual
 
   pub temps_of_parts : CInitials → ℕ
   temps_of_parts CInitials.none = 0
-  temps_of_parts (CInitials.next x xs) = max (temps_of_initial x) (temps_of_parts xs)
+  temps_of_parts (CInitials.more x xs) = max (temps_of_initial x) (temps_of_parts xs)
 
-abbrev pub temps_of_initialiser : Option CInitialiser → ℕ
-temps_of_initialiser None = 0
-temps_of_initialiser (Some i) = temps_of_initial i.value
+abbrev pub temps_of_initializer : Option CInitializer → ℕ
+temps_of_initializer None = 0
+temps_of_initializer (Some i) = temps_of_initial i.value
 
 abbrev pub temps_of_declarations : List CDeclaration → ℕ
 temps_of_declarations [] = 0
-temps_of_declarations (d ∷ ds) = max (temps_of_initialiser d.initialiser) (temps_of_declarations ds)
+temps_of_declarations (d ∷ ds) = max (temps_of_initializer d.initializer) (temps_of_declarations ds)
 
 abbrev pub temps_of_start : CStart → ℕ
 temps_of_start CStart.Nothing = 0
@@ -172,7 +172,7 @@ temps_of_option (Some e) = temps_of e
 abbrev mutual
   pub temps_of_stmt : CStmt → ℕ
   temps_of_stmt (CStmt.Block at xs) = temps_of_stmts xs
-  temps_of_stmt (CStmt.Declare d) = temps_of_initialiser d.initialiser
+  temps_of_stmt (CStmt.Declare d) = temps_of_initializer d.initializer
   temps_of_stmt (CStmt.Empty at) = 0
   temps_of_stmt (CStmt.Eval at e) = temps_of e
   temps_of_stmt (CStmt.If at c x) = max (temps_of c) (temps_of_stmt x)
@@ -187,7 +187,7 @@ abbrev mutual
 
   pub temps_of_stmts : CStmts → ℕ
   temps_of_stmts CStmts.none = 0
-  temps_of_stmts (CStmts.next x xs) = max (temps_of_stmt x) (temps_of_stmts xs)
+  temps_of_stmts (CStmts.more x xs) = max (temps_of_stmt x) (temps_of_stmts xs)
 
 -- how many of these locals are no block locals
 abbrev pub value_locals : List CLocal → ℕ

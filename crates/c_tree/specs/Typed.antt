@@ -7,7 +7,7 @@ use Rattle.c_tree.specs.declared.typed.GlobalObject.TheVariants.{Named, Text}
 use Rattle.c_tree.specs.declared.typed.InitialByte.{InitialByte}
 use Rattle.c_tree.specs.declared.typed.InitialByte.TheVariants.{Byte, PointerPart}
 use Rattle.c_tree.specs.Types.{CType, is_array, is_struct, IsScalar}
-use Rattle.c_tree.specs.TypedTree.{CExpr, CForm, CExprs, CInitial, CInitials, CInitialiser, CDeclaration, CStart, CStmt, CStmts, CMember, CStruct, CGlobal, CLocal, CFunction, CProgram}
+use Rattle.c_tree.specs.TypedTree.{CExpr, CForm, CExprs, CInitial, CInitials, CInitializer, CDeclaration, CStart, CStmt, CStmts, CMember, CStruct, CGlobal, CLocal, CFunction, CProgram}
 use Rattle.c_tree.specs.Sizes.{largest, size_of, IsComplete, IsType, rounded_up, AreInOrder, end_of, greatest_align}
 use Rattle.c_tree.specs.TypedRules.{IsResult}
 use Rattle.c_tree.specs.TypedBody.{IsStmt}
@@ -50,12 +50,12 @@ abbrev mutual
   refers_in k (CForm.Assign op a b) = refers k a || refers k b
   refers_in k (CForm.Comma a b) = refers k a || refers k b
   refers_in k (CForm.Cast e) = refers k e
-  refers_in k (CForm.SizeOf e) = refers k e
-  refers_in k (CForm.SizeOfType t) = false
+  refers_in k (CForm.SizeofExpression e) = refers k e
+  refers_in k (CForm.SizeofType t) = false
 
   pub some_refers : ℕ → CExprs → Bool
   some_refers k CExprs.none = false
-  some_refers k (CExprs.next e es) = refers k e || some_refers k es
+  some_refers k (CExprs.more e es) = refers k e || some_refers k es
 
 abbrev mutual
   pub initial_refers : ℕ → CInitial → Bool
@@ -65,15 +65,15 @@ abbrev mutual
 
   pub some_initial_refers : ℕ → CInitials → Bool
   some_initial_refers k CInitials.none = false
-  some_initial_refers k (CInitials.next x xs) = initial_refers k x || some_initial_refers k xs
+  some_initial_refers k (CInitials.more x xs) = initial_refers k x || some_initial_refers k xs
 
-abbrev pub initialiser_refers : ℕ → Option CInitialiser → Bool
-initialiser_refers k None = false
-initialiser_refers k (Some i) = initial_refers k i.value
+abbrev pub initializer_refers : ℕ → Option CInitializer → Bool
+initializer_refers k None = false
+initializer_refers k (Some i) = initial_refers k i.value
 
 abbrev pub some_declaration_refers : ℕ → List CDeclaration → Bool
 some_declaration_refers k [] = false
-some_declaration_refers k (d ∷ ds) = initialiser_refers k d.initialiser || some_declaration_refers k ds
+some_declaration_refers k (d ∷ ds) = initializer_refers k d.initializer || some_declaration_refers k ds
 
 abbrev pub start_refers : ℕ → CStart → Bool
 start_refers k CStart.Nothing = false
@@ -87,7 +87,7 @@ option_refers k (Some e) = refers k e
 abbrev mutual
   pub stmt_refers : ℕ → CStmt → Bool
   stmt_refers k (CStmt.Block at xs) = some_stmt_refers k xs
-  stmt_refers k (CStmt.Declare d) = initialiser_refers k d.initialiser
+  stmt_refers k (CStmt.Declare d) = initializer_refers k d.initializer
   stmt_refers k (CStmt.Empty at) = false
   stmt_refers k (CStmt.Eval at e) = refers k e
   stmt_refers k (CStmt.If at c x) = refers k c || stmt_refers k x
@@ -102,7 +102,7 @@ abbrev mutual
 
   pub some_stmt_refers : ℕ → CStmts → Bool
   some_stmt_refers k CStmts.none = false
-  some_stmt_refers k (CStmts.next x xs) = stmt_refers k x || some_stmt_refers k xs
+  some_stmt_refers k (CStmts.more x xs) = stmt_refers k x || some_stmt_refers k xs
 
 -- 6.7.2.1 p3, p14, p15, p17: The members of a struct have complete types and lie in order, each at the next multiple of
 -- its alignment. The struct's alignment is the greatest of theirs, and its size is rounded up to it. A tag that is never

@@ -1,7 +1,7 @@
 -- When the typed tree of a function's body keeps the rules of typing.
-use Rattle.std.specs.Prelude.{◌≡◌, ℕ, suc, ◌+◌, Bool, true, false, IsTrue, Option, Some, None, List, [], ◌∷◌, length, slice_get}
-use Rattle.c_tree.specs.Types.{CType}
-use Rattle.c_tree.specs.TypedTree.{CExpr, CForm, CExprs, CInitial, CInitials, CInitialiser, CDeclaration, CStart, CStmt, CStmts, CGlobal, CLocal, CProgram, type_of}
+use Rattle.std.specs.Prelude.{◌≡◌, ℕ, suc, ◌+◌, Bool, ◌||◌, true, false, IsTrue, Option, Some, None, List, [], ◌∷◌, length, slice_get}
+use Rattle.c_tree.specs.Types.{CType, is_array, is_struct}
+use Rattle.c_tree.specs.TypedTree.{CExpr, CForm, CExprs, CInitial, CInitials, CInitializer, CDeclaration, CStart, CStmt, CStmts, CGlobal, CLocal, CProgram, type_of}
 use Rattle.c_tree.specs.Sizes.{IsComplete, IsType}
 use Rattle.c_tree.specs.TypedOperands.{IsPlain, IsConversion, IsGiven}
 use Rattle.c_tree.specs.TypedRules.{IsCondition, IsUnary, IsBinary, IsElement, IsMember, IsMemberBehind, IsStepped, AreAlternatives, IsAssignment, AreInTurn, IsCast, IsMeasured, IsCall, IsCopied, IsFilled, part_type, IsReturned}
@@ -55,12 +55,12 @@ module _ (p : CProgram) (locals : List CLocal) (result : CType) where
     IsForm t (CForm.Assign op a b) = IsExpr a × IsExpr b × IsAssignment p.structs op a b t
     IsForm t (CForm.Comma a b) = IsExpr a × IsExpr b × AreInTurn a b t
     IsForm t (CForm.Cast e) = IsExpr e × IsCast e t
-    IsForm t (CForm.SizeOf e) = IsExpr e × IsMeasured p.structs e t
-    IsForm t (CForm.SizeOfType u) = IsType p.structs u × IsComplete p.structs u × (t ≡ CType.Unsigned)
+    IsForm t (CForm.SizeofExpression e) = IsExpr e × IsMeasured p.structs e t
+    IsForm t (CForm.SizeofType u) = IsType p.structs u × IsComplete p.structs u × (t ≡ CType.Unsigned)
 
     pub AreExprs : CExprs → Type 0
     AreExprs CExprs.none = Unit {0}
-    AreExprs (CExprs.next e es) = IsExpr e × AreExprs es
+    AreExprs (CExprs.more e es) = IsExpr e × AreExprs es
 
   abbrev mutual
     -- 6.7.9: A scalar takes a value that is given to it; an array of char takes a string; an array and a struct take
@@ -68,28 +68,28 @@ module _ (p : CProgram) (locals : List CLocal) (result : CType) where
     pub IsInitial : CType → CInitial → Type 0
     IsInitial t (CInitial.Value e) = IsExpr e × IsGiven t e
     IsInitial t (CInitial.Text at bytes) = IsFilled t bytes
-    IsInitial t (CInitial.Braces at parts) = AreInitials t 0 parts
+    IsInitial t (CInitial.Braces at parts) = IsTrue (is_array t || is_struct t) × AreInitials t 0 parts
 
     -- for the parts from part i on
     pub AreInitials : CType → ℕ → CInitials → Type 0
     AreInitials t i CInitials.none = Unit {0}
-    AreInitials t i (CInitials.next x xs) =
+    AreInitials t i (CInitials.more x xs) =
         ((u : CType) × (part_type p.structs t i ≡ Some u) × IsInitial u x) × AreInitials t (suc i) xs
 
   -- 6.7.9 p13: A declared struct as a whole may also be copied from a place.
-  pub data IsInitialised (t : CType) : CInitial → Type 0 where
-    parts : {x : CInitial} → IsInitial t x → IsInitialised t x
-    copy : {e : CExpr} → IsExpr e → IsCopied t e → IsInitialised t (CInitial.Value e)
+  pub data IsInitialized (t : CType) : CInitial → Type 0 where
+    parts : {x : CInitial} → IsInitial t x → IsInitialized t x
+    copy : {e : CExpr} → IsExpr e → IsCopied t e → IsInitialized t (CInitial.Value e)
 
-  abbrev pub MayInitialise : CType → Option CInitialiser → Type 0
-  MayInitialise t None = Unit {0}
-  MayInitialise t (Some i) = IsInitialised t i.value
+  abbrev pub MayInitialize : CType → Option CInitializer → Type 0
+  MayInitialize t None = Unit {0}
+  MayInitialize t (Some i) = IsInitialized t i.value
 
-  -- a declaration names a local, and its initialiser fits it
+  -- a declaration names a local, and its initializer fits it
   pub record IsDeclaration (d : CDeclaration) : Type 0 where
     pub local : CLocal
     pub found : slice_get locals d.local ≡ Some local
-    pub initialised : MayInitialise local.ty d.initialiser
+    pub initialized : MayInitialize local.ty d.initializer
 
   abbrev pub AreDeclarations : List CDeclaration → Type 0
   AreDeclarations [] = Unit {0}
@@ -139,4 +139,4 @@ module _ (p : CProgram) (locals : List CLocal) (result : CType) where
 
     pub AreStmts : Bool → CStmts → Type 0
     AreStmts in_loop CStmts.none = Unit {0}
-    AreStmts in_loop (CStmts.next x xs) = IsStmt in_loop x × AreStmts in_loop xs
+    AreStmts in_loop (CStmts.more x xs) = IsStmt in_loop x × AreStmts in_loop xs

@@ -3,7 +3,7 @@ use Rattle.std.specs.Prelude.{◌≡◌, ℕ, ◌≤◌, Bool, true, false, All,
 use Rattle.c_tree.specs.declared.place.At.{At}
 use Rattle.c_tree.specs.declared.operators.AssignOperator.TheVariants.{Assign}
 use Rattle.c_tree.specs.Types.{CType}
-use Rattle.c_tree.specs.TypedTree.{CExpr, CForm, CExprs, CInitial, CInitialiser, CStmt, CStmts, CMember, CStruct, CLocal, CFunction, CProgram}
+use Rattle.c_tree.specs.TypedTree.{CExpr, CForm, CExprs, CInitial, CInitializer, CStmt, CStmts, CMember, CStruct, CLocal, CFunction, CProgram}
 use Rattle.c_tree.specs.Sizes.{largest, size_of, align_of, IsType}
 use Rattle.c_tree.specs.Counts.{nodes_of_program, values_of}
 use Rattle.c_tree.specs.Typed.{IsStruct, Typed}
@@ -39,7 +39,7 @@ abbrev pub main_of : List CLocal → CStmts → CProgram
 main_of locals body = record { structs = []; globals = []; texts = []; functions = main_function locals body ∷ []; main = 0 }
 
 abbrev pub return_number : ℕ → CStmts
-return_number value = CStmts.next (CStmt.Return (token 6) (Some (number 7 value))) CStmts.none
+return_number value = CStmts.more (CStmt.Return (token 6) (Some (number 7 value))) CStmts.none
 
 -- `int main(void){return 42;}`
 abbrev pub forty_two : CProgram
@@ -77,7 +77,7 @@ Mixed = IsStruct (mixed ∷ []) mixed × (size_of (mixed ∷ []) (CType.Array (C
 
 -- a program whose `main` has one statement
 abbrev pub doing : CStmt → CProgram
-doing x = main_of [] (CStmts.next x CStmts.none)
+doing x = main_of [] (CStmts.more x CStmts.none)
 
 -- `1 = 2;`: what is assigned to is no place.
 abbrev pub assigns_to_number : CStmt
@@ -92,10 +92,10 @@ abbrev pub pointer_local : CLocal
 pointer_local = record { name = codes "p"; ty = CType.Pointer CType.Int; size = 4; is_block = false }
 
 abbrev pub points : CStmts
-points = CStmts.next (CStmt.Declare (record {
+points = CStmts.more (CStmt.Declare (record {
   at = token 8;
   local = 0;
-  initialiser = Some (record { at = token 9; value = CInitial.Value (number 10 5) });
+  initializer = Some (record { at = token 9; value = CInitial.Value (number 10 5) });
 })) CStmts.none
 
 abbrev pub points_to_number : CProgram

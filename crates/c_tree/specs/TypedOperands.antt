@@ -43,8 +43,8 @@ abbrev mutual
   is_place_form (CForm.Assign op a b) = false
   is_place_form (CForm.Comma a b) = false
   is_place_form (CForm.Cast e) = false
-  is_place_form (CForm.SizeOf e) = false
-  is_place_form (CForm.SizeOfType t) = false
+  is_place_form (CForm.SizeofExpression e) = false
+  is_place_form (CForm.SizeofType t) = false
 
 -- 6.3.2.3 p3: the null constants are the number 0, however it is written, and `NULL`
 abbrev pub is_null : CExpr → Bool

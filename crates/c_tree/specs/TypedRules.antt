@@ -1,5 +1,5 @@
 -- The rules of typing, one definition each: what the operands of an operator and its type are (C11 6.5), what an
--- initialiser fits (6.7.9), and what a function may be (6.7.6.3, 6.9.1).
+-- initializer fits (6.7.9), and what a function may be (6.7.6.3, 6.9.1).
 use Rattle.std.specs.Prelude.{◌≡◌, ◌≢◌, ℕ, ◌+◌, ◌<◌, ◌≤◌, nat_lt, Bool, true, false, IsTrue, if◌then◌else◌, Option, Some, None, List, [], ◌∷◌, length, map, take, slice_get}
 use Rattle.c_tree.specs.declared.operators.UnaryOperator.{UnaryOperator}
 use Rattle.c_tree.specs.declared.operators.UnaryOperator.TheVariants as unary
@@ -284,9 +284,9 @@ called_prototype functions (Library f) = Some (prototype_in_library f)
 -- 6.5.2.2 p2, p7: there are as many arguments as parameters, and each is given to its parameter's type
 abbrev pub AreGiven : List CType → CExprs → Type 0
 AreGiven [] CExprs.none = Unit {0}
-AreGiven [] (CExprs.next e es) = ⊥
+AreGiven [] (CExprs.more e es) = ⊥
 AreGiven (t ∷ ts) CExprs.none = ⊥
-AreGiven (t ∷ ts) (CExprs.next e es) = IsGiven t e × AreGiven ts es
+AreGiven (t ∷ ts) (CExprs.more e es) = IsGiven t e × AreGiven ts es
 
 -- 6.5.2.2: A call names a function, has arguments for its parameters, and has the type of its result.
 pub record IsCall (functions : List CFunction) (called : Called) (arguments : CExprs) (t : CType) : Type 0 where

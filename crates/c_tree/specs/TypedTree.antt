@@ -36,13 +36,13 @@ mutual
     Assign : AssignOperator → CExpr → CExpr → CForm
     Comma : CExpr → CExpr → CForm
     Cast : CExpr → CForm
-    SizeOf : CExpr → CForm
-    SizeOfType : CType → CForm
+    SizeofExpression : CExpr → CForm
+    SizeofType : CType → CForm
 
   -- a call's arguments
   pub data CExprs : Type 0 where
     none : CExprs
-    next : CExpr → CExprs → CExprs
+    more : CExpr → CExprs → CExprs
 
 mutual
   pub data CInitial : Type 0 where
@@ -53,16 +53,16 @@ mutual
   -- the parts between braces
   pub data CInitials : Type 0 where
     none : CInitials
-    next : CInitial → CInitials → CInitials
+    more : CInitial → CInitials → CInitials
 
-pub record CInitialiser : Type 0 where
+pub record CInitializer : Type 0 where
   pub at : At
   pub value : CInitial
 
 pub record CDeclaration : Type 0 where
   pub at : At
   pub local : ℕ
-  pub initialiser : Option CInitialiser
+  pub initializer : Option CInitializer
 
 pub data CStart : Type 0 where
   Nothing : CStart
@@ -87,7 +87,7 @@ mutual
   -- what stands in a block
   pub data CStmts : Type 0 where
     none : CStmts
-    next : CStmt → CStmts → CStmts
+    more : CStmt → CStmts → CStmts
 
 pub record CMember : Type 0 where
   pub name : List ℕ

@@ -6,13 +6,13 @@ use Rattle.c_tree.specs.declared.types.Ty.{Ty}
 use Rattle.c_tree.specs.declared.types.Member.{Member as TheMember}
 use Rattle.c_tree.specs.declared.types.StructType.{StructType}
 use Rattle.c_tree.specs.declared.typed_expr.TypedExpr.{TypedExpr}
-use Rattle.c_tree.specs.declared.typed_expr.TypedForm.{TypedForm, Local, Global, Text, Number, Character, Null, Eof, Convert', Index', Call', Member', Arrow', StepBefore', StepAfter', Unary', Binary', Conditional', Assign', Comma', Cast', SizeOf', SizeOfType, end_of-TypedExpr, more_of-TypedExpr, Row_of-TypedExpr}
-use Rattle.c_tree.specs.declared.typed_stmt.InitialValue.{InitialValue, fold-InitialValue}
-use Rattle.c_tree.specs.declared.typed_stmt.InitialValue.TheOpen.{InitialValue-F}
-use Rattle.c_tree.specs.declared.typed_stmt.Initialiser.{Initialiser}
-use Rattle.c_tree.specs.declared.typed_stmt.Declaration.{Declaration}
-use Rattle.c_tree.specs.declared.typed_stmt.ForStart.{ForStart}
-use Rattle.c_tree.specs.declared.typed_stmt.ForStart.TheVariants as f
+use Rattle.c_tree.specs.declared.typed_expr.TypedForm.{TypedForm, Local, Global, Text, Number, Character, Null, Eof, Convert', Index', Call', Member', Arrow', StepBefore', StepAfter', Unary', Binary', Conditional', Assign', Comma', Cast', SizeofExpression', SizeofType, end_of-TypedExpr, more_of-TypedExpr, Row_of-TypedExpr}
+use Rattle.c_tree.specs.declared.typed_stmt.TypedInitial.{TypedInitial, fold-TypedInitial}
+use Rattle.c_tree.specs.declared.typed_stmt.TypedInitial.TheOpen.{TypedInitial-F}
+use Rattle.c_tree.specs.declared.typed_stmt.TypedInitializer.{TypedInitializer}
+use Rattle.c_tree.specs.declared.typed_stmt.TypedDeclaration.{TypedDeclaration}
+use Rattle.c_tree.specs.declared.typed_stmt.TypedStart.{TypedStart}
+use Rattle.c_tree.specs.declared.typed_stmt.TypedStart.TheVariants as f
 use Rattle.c_tree.specs.declared.typed_stmt.TypedStmt.{TypedStmt, fold-TypedStmt}
 use Rattle.c_tree.specs.declared.typed_stmt.TypedStmt.TheOpen.{TypedStmt-F}
 use Rattle.c_tree.specs.declared.typed.Global.{Global as TheGlobal}
@@ -21,7 +21,7 @@ use Rattle.c_tree.specs.declared.typed.Function.{Function}
 use Rattle.c_tree.specs.declared.typed.Program.{Program}
 use Rattle.c_tree.specs.Types.{CType}
 use Rattle.c_tree.specs.TypesViewed.{ty_of}
-use Rattle.c_tree.specs.TypedTree.{CExpr, CForm, CExprs, CInitial, CInitials, CInitialiser, CDeclaration, CStart, CStmt, CStmts, CMember, CStruct, CGlobal, CLocal, CFunction, CProgram}
+use Rattle.c_tree.specs.TypedTree.{CExpr, CForm, CExprs, CInitial, CInitials, CInitializer, CDeclaration, CStart, CStmt, CStmts, CMember, CStruct, CGlobal, CLocal, CFunction, CProgram}
 
 abbrev pub viewed : At → Ty → CForm → CExpr
 viewed at ty form = CExpr.expr at (ty_of ty) form
@@ -49,12 +49,12 @@ abbrev mutual
   form_view (Assign' op p at t e p' at' t' e') = CForm.Assign op (viewed at t (form_view e)) (viewed at' t' (form_view e'))
   form_view (Comma' p at t e p' at' t' e') = CForm.Comma (viewed at t (form_view e)) (viewed at' t' (form_view e'))
   form_view (Cast' p at t e) = CForm.Cast (viewed at t (form_view e))
-  form_view (SizeOf' p at t e) = CForm.SizeOf (viewed at t (form_view e))
-  form_view (SizeOfType t) = CForm.SizeOfType (ty_of t)
+  form_view (SizeofExpression' p at t e) = CForm.SizeofExpression (viewed at t (form_view e))
+  form_view (SizeofType t) = CForm.SizeofType (ty_of t)
 
   pub row_view : {m : _} → Row_of-TypedExpr m → CExprs
   row_view end_of-TypedExpr = CExprs.none
-  row_view (more_of-TypedExpr at t e rest) = CExprs.next (viewed at t (form_view e)) (row_view rest)
+  row_view (more_of-TypedExpr at t e rest) = CExprs.more (viewed at t (form_view e)) (row_view rest)
 
 -- the expression that a `TypedExpr` stands for
 abbrev pub expr_of : TypedExpr → CExpr
@@ -62,40 +62,40 @@ expr_of e = viewed e.at e.ty (form_view e.form)
 
 abbrev pub exprs : List CExpr → CExprs
 exprs [] = CExprs.none
-exprs (e ∷ es) = CExprs.next e (exprs es)
+exprs (e ∷ es) = CExprs.more e (exprs es)
 
 abbrev pub exprs_of : List TypedExpr → CExprs
 exprs_of es = exprs (map expr_of es)
 
 abbrev pub initials : List CInitial → CInitials
 initials [] = CInitials.none
-initials (x ∷ xs) = CInitials.next x (initials xs)
+initials (x ∷ xs) = CInitials.more x (initials xs)
 
-abbrev pub initial_level : InitialValue-F CInitial → CInitial
-initial_level (InitialValue-F.Value e) = CInitial.Value (expr_of e)
-initial_level (InitialValue-F.Text at bytes) = CInitial.Text at bytes.items
-initial_level (InitialValue-F.Braces at parts) = CInitial.Braces at (initials parts.items)
+abbrev pub initial_level : TypedInitial-F CInitial → CInitial
+initial_level (TypedInitial-F.Value e) = CInitial.Value (expr_of e)
+initial_level (TypedInitial-F.Text at bytes) = CInitial.Text at bytes.items
+initial_level (TypedInitial-F.Braces at parts) = CInitial.Braces at (initials parts.items)
 
-abbrev pub initial_of : InitialValue → CInitial
-initial_of = fold-InitialValue CInitial initial_level
+abbrev pub initial_of : TypedInitial → CInitial
+initial_of = fold-TypedInitial CInitial initial_level
 
-abbrev pub initials_of : List InitialValue → CInitials
+abbrev pub initials_of : List TypedInitial → CInitials
 initials_of xs = initials (map initial_of xs)
 
-abbrev pub initialiser_of : Initialiser → CInitialiser
-initialiser_of i = record { at = i.at; value = initial_of i.value }
+abbrev pub initializer_of : TypedInitializer → CInitializer
+initializer_of i = record { at = i.at; value = initial_of i.value }
 
-abbrev pub declaration_of : Declaration → CDeclaration
-declaration_of d = record { at = d.at; local = d.local; initialiser = option_map initialiser_of d.initialiser }
+abbrev pub declaration_of : TypedDeclaration → CDeclaration
+declaration_of d = record { at = d.at; local = d.local; initializer = option_map initializer_of d.initializer }
 
-abbrev pub start_of : ForStart → CStart
+abbrev pub start_of : TypedStart → CStart
 start_of f.Nothing = CStart.Nothing
 start_of (f.Eval e) = CStart.Eval (expr_of e)
 start_of (f.Declare ds) = CStart.Declare (map declaration_of ds.items)
 
 abbrev pub stmts : List CStmt → CStmts
 stmts [] = CStmts.none
-stmts (x ∷ xs) = CStmts.next x (stmts xs)
+stmts (x ∷ xs) = CStmts.more x (stmts xs)
 
 abbrev pub stmt_level : TypedStmt-F CStmt → CStmt
 stmt_level (TypedStmt-F.Block at xs) = CStmt.Block at (stmts xs.items)

@@ -7,5 +7,7 @@ pub mod typed;
 pub mod typed_expr;
 pub mod typed_laws;
 pub mod typed_stmt;
+#[cfg(test)]
+mod typed_tests;
 pub mod types;
 pub mod words;

@@ -10,7 +10,7 @@
 //!   pointer's sum, or the second or third operand of `?:`, becomes one of the type to which it is promoted, or of the
 //!   common type of both operands (C11 6.3.1.1, 6.3.1.8). One node goes the whole way: a `char` that meets an
 //!   `unsigned` is one conversion to `unsigned`.
-//! - A value that is given to a type, by `=`, an argument, `return` or an initialiser, becomes one of that type: a
+//! - A value that is given to a type, by `=`, an argument, `return` or an initializer, becomes one of that type: a
 //!   number a number, a null constant a null pointer, a pointer a pointer to or from `void` (C11 6.5.16.1).
 //! - Of two pointers in `==`, `!=` and `?:` the one that differs from their common type becomes one of it (C11 6.5.9,
 //!   6.5.15).
@@ -22,7 +22,7 @@
 ghost use Rattle.std.specs.Prelude.{◌≡◌, IfOk};
 ghost use Rattle.c_tree.specs.TypesViewed.{ty_of};
 ghost use Rattle.c_tree.specs.TypedTree.CExpr.{expr};
-ghost use Rattle.c_tree.specs.TypedTree.CForm.{Convert, Index, Member, Arrow, StepBefore, StepAfter, Unary, Binary, Conditional, Assign, Comma, Cast, SizeOf};
+ghost use Rattle.c_tree.specs.TypedTree.CForm.{Convert, Index, Member, Arrow, StepBefore, StepAfter, Unary, Binary, Conditional, Assign, Comma, Cast, SizeofExpression};
 ghost use Rattle.c_tree.specs.TypedOperands.{is_place, is_null};
 ghost use Rattle.c_tree.specs.TypedViews.{expr_of};
 
@@ -76,7 +76,7 @@ pub enum Conversion {
 
 /// An expression with its type. Contracts see it as a `CExpr`, by `expr_of`.
 #[cycle(typed)]
-#[derive(Debug, Drop)]
+#[derive(Debug)]
 pub struct TypedExpr {
     /// The operator, the called name, or the first token of a name, a constant or a string.
     pub at: At,
@@ -129,9 +129,20 @@ pub enum TypedForm {
     /// A cast to the expression's type.
     Cast(Box<TypedExpr>),
     /// `sizeof e`
-    SizeOf(Box<TypedExpr>),
+    SizeofExpression(Box<TypedExpr>),
     /// `sizeof (T)`
-    SizeOfType(Ty),
+    SizeofType(Ty),
+}
+
+/// By hand, so that letting an expression go is a call where it happens, and not the cases of all forms.
+impl Drop for TypedExpr {
+    fn drop(self) {
+        let TypedExpr {
+            at: _,
+            ty: _,
+            form: _,
+        } = self;
+    }
 }
 
 impl TypedExpr {
@@ -311,9 +322,9 @@ impl TypedExpr {
         ty: Ty,
         operand: TypedExpr,
     ) -> Result<TypedExpr, AllocError>
-        ensures { IfOk result (λ e. expr_of e ≡ expr at (ty_of ty) (SizeOf (expr_of operand))) }
+        ensures { IfOk result (λ e. expr_of e ≡ expr at (ty_of ty) (SizeofExpression (expr_of operand))) }
     {
-        let form = TypedForm::SizeOf(Box::new(alloc, operand)?);
+        let form = TypedForm::SizeofExpression(Box::new(alloc, operand)?);
         Ok(TypedExpr { at, ty, form })
     }
 

@@ -8,49 +8,49 @@ use crate::place::At;
 use crate::typed_expr::TypedExpr;
 use std::alloc::{AllocError, Global};
 
-/// What an object is initialised with (C11 6.7.9).
-#[derive(Debug, Drop)]
-pub enum InitialValue {
+/// What an object is initialized with (C11 6.7.9).
+#[derive(Debug)]
+pub enum TypedInitial {
     /// The value of an expression, given to a scalar; or the struct that a place holds, for a whole declared struct.
     Value(TypedExpr),
-    /// A string that initialises an array of `char`, as its bytes without the final zero.
+    /// A string that initializes an array of `char`, as its bytes without the final zero.
     Text(At, Vec<u8>),
     /// The parts of an array or a struct between braces, in order.
-    Braces(At, Vec<InitialValue>),
+    Braces(At, Vec<TypedInitial>),
 }
 
-/// An initialiser: its `=`, and what it gives.
+/// An initializer: its `=`, and what it gives.
 #[derive(Debug, Drop)]
-pub struct Initialiser {
+pub struct TypedInitializer {
     pub at: At,
-    pub value: InitialValue,
+    pub value: TypedInitial,
 }
 
 /// The declaration of a local, where it stands. A list of declarators is so many declarations.
 #[derive(Debug, Drop)]
-pub struct Declaration {
+pub struct TypedDeclaration {
     /// The declared name.
     pub at: At,
     /// The number of the local in the function's list.
     pub local: u32,
-    pub initialiser: Option<Initialiser>,
+    pub initializer: Option<TypedInitializer>,
 }
 
 /// What a `for` begins with (C11 6.8.5.3).
 #[derive(Debug, Drop)]
-pub enum ForStart {
+pub enum TypedStart {
     Nothing,
     Eval(TypedExpr),
-    Declare(Vec<Declaration>),
+    Declare(Vec<TypedDeclaration>),
 }
 
 /// A statement or a declaration in a block (C11 6.8). Contracts see it as a `CStmt`, by `stmt_of`.
-#[derive(Debug, Drop)]
+#[derive(Debug)]
 pub enum TypedStmt {
     /// `{ .. }`
     Block(At, Vec<TypedStmt>),
     /// The declaration of a local.
-    Declare(Declaration),
+    Declare(TypedDeclaration),
     /// `;`
     Empty(At),
     /// `e;`
@@ -77,7 +77,7 @@ pub enum TypedStmt {
     /// `for (start; condition; step) body`
     For {
         at: At,
-        start: ForStart,
+        start: TypedStart,
         condition: Option<TypedExpr>,
         step: Option<TypedExpr>,
         body: Box<TypedStmt>,
@@ -88,6 +88,53 @@ pub enum TypedStmt {
     Continue(At),
     /// `return;` and `return e;`
     Return(At, Option<TypedExpr>),
+}
+
+/// By hand, so that letting a value go is a call where it happens, and not the cases of all kinds.
+impl Drop for TypedInitial {
+    fn drop(self) {
+        match self {
+            TypedInitial::Value(_) | TypedInitial::Text(_, _) | TypedInitial::Braces(_, _) => {}
+        }
+    }
+}
+
+/// By hand, so that letting a statement go is a call where it happens, and not the cases of all kinds.
+impl Drop for TypedStmt {
+    fn drop(self) {
+        match self {
+            TypedStmt::Block(_, _)
+            | TypedStmt::Declare(_)
+            | TypedStmt::Empty(_)
+            | TypedStmt::Eval(_, _)
+            | TypedStmt::Break(_)
+            | TypedStmt::Continue(_)
+            | TypedStmt::Return(_, _) => {}
+            TypedStmt::If {
+                at: _,
+                condition: _,
+                body: _,
+                otherwise: _,
+            } => {}
+            TypedStmt::While {
+                at: _,
+                condition: _,
+                body: _,
+            } => {}
+            TypedStmt::Do {
+                at: _,
+                body: _,
+                condition: _,
+            } => {}
+            TypedStmt::For {
+                at: _,
+                start: _,
+                condition: _,
+                step: _,
+                body: _,
+            } => {}
+        }
+    }
 }
 
 #[tactic(auto, using(crate::proofs::TypedViewed::typed_views))]
@@ -169,7 +216,7 @@ impl TypedStmt {
     pub fn for_loop(
         alloc: Global,
         at: At,
-        start: ForStart,
+        start: TypedStart,
         condition: Option<TypedExpr>,
         step: Option<TypedExpr>,
         body: TypedStmt,

@@ -9,7 +9,7 @@ use bb_words::list::List;
 use std::alloc::{AllocError, Global};
 
 /// A type. Contracts see it as a `CType`, by `ty_of`.
-#[derive(Debug, Drop)]
+#[derive(Debug)]
 pub enum Ty {
     /// `void`
     Void,
@@ -45,6 +45,16 @@ pub struct Member {
     pub name: Name,
     pub ty: Ty,
     pub offset: u32,
+}
+
+/// By hand, so that letting a type go is a call where it happens, and not the cases of all kinds of types.
+impl Drop for Ty {
+    fn drop(self) {
+        match self {
+            Ty::Void | Ty::Char | Ty::Int | Ty::Unsigned | Ty::Struct(_) => {}
+            Ty::Pointer(_) | Ty::Array(_, _) => {}
+        }
+    }
 }
 
 impl Ty {
