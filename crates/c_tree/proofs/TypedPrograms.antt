@@ -6,8 +6,8 @@ use Rattle.c_tree.specs.Types.{CType, is_struct}
 use Rattle.c_tree.specs.TypedTree.{CInitial, CStmt, CStmts, CStruct, CMember, CGlobal, CLocal, CFunction, CProgram}
 use Rattle.c_tree.specs.Sizes.{IsType, IsComplete}
 use Rattle.c_tree.specs.TypedRules.{IsResult, IsSet}
-use Rattle.c_tree.specs.TypedBody.{IsLiteral, IsInitialized, IsStmt, AreStmts}
-use Rattle.c_tree.specs.Typed.{IsStruct, IsFunction, IsLocalObject, IsMain, IsGlobalObject, Typed}
+use Rattle.c_tree.specs.TypedBody.{Environment, IsLiteral, IsInitialized, IsStmt, AreStmts}
+use Rattle.c_tree.specs.Typed.{environment_of, IsStruct, IsFunction, IsLocalObject, IsMain, IsGlobalObject, Typed}
 use Rattle.c_tree.specs.TypedLaws.{forty_two, main_function, main_of, return_number, doing, number, token, mixed, assigns_to_number, returns_nothing, pointer_local, points, points_to_number, Mixed, NotTyped}
 use Rattle.c_tree.proofs.TypedLemmas.{none_lies}
 
@@ -50,31 +50,33 @@ mixed_is_right = (
   refl,
 )
 
--- the one statement of a typed `main` keeps the rules
-module _ (locals : List CLocal) (body : CStmts) where
-  body_of : Typed (main_of locals body) → AreStmts (main_of locals body) locals CType.Int false body
-  body_of typed = (All-head (IsFunction (main_of locals body)) _ [] typed.functions).body
+-- what the names of a `main` with these locals stand for
+abbrev names_in : List CLocal → CStmts → Environment
+names_in locals body = environment_of (main_of locals body) (main_function locals body)
 
-assignment : (p : CProgram) (locals : List CLocal) (result : CType) → IsStmt p locals result false assigns_to_number → ⊥
-assignment p locals result typed = elim typed.0.1.2 [ IsSet.scalar assignable given same ↦ cc | IsSet.struct assignable copied same ↦ cc ]
+-- the statements of a typed `main` keep the rules
+body_of : (locals : List CLocal) (body : CStmts) → Typed (main_of locals body) → AreStmts (names_in locals body) false body
+body_of locals body typed = (All-head (IsFunction (main_of locals body)) _ [] typed.functions).body
+
+-- a number is no place
+assignment : (names : Environment) → IsStmt names false assigns_to_number → ⊥
+assignment names typed = elim typed.0.1.2 [ IsSet.scalar assignable given same ↦ cc | IsSet.struct assignable copied same ↦ cc ]
 
 -- a pointer is not given a number other than 0
-pointed : (p : CProgram) (locals : List CLocal) (result t : CType) → t ≡ CType.Pointer CType.Int → IsInitialized p locals result t (CInitial.Value (number 10 5)) → ⊥
-pointed p locals result t is_pointer (IsInitialized.parts value) = cc
-pointed p locals result t is_pointer (IsInitialized.copy typed copied) =
+pointed : (names : Environment) (t : CType) → t ≡ CType.Pointer CType.Int → IsInitialized names t (CInitial.Value (number 10 5)) → ⊥
+pointed names t is_pointer (IsInitialized.parts value) = cc
+pointed names t is_pointer (IsInitialized.copy typed copied) =
     let wrong : is_struct (CType.Pointer CType.Int) ≡ true = rw is_pointer at copied.struct in cc
 
-pointer : (p : CProgram) (locals : List CLocal) (result : CType) (l : CLocal)
-    → slice_get (pointer_local ∷ []) 0 ≡ Some l
-    → IsInitialized p locals result l.ty (CInitial.Value (number 10 5)) → ⊥
-pointer p locals result l found initialized = pointed p locals result l.ty (let same : pointer_local ≡ l = cc in ap (λ (x : CLocal). x.ty) (sym same)) initialized
+pointer : (names : Environment) (t : CType) → Some (CType.Pointer CType.Int) ≡ Some t → IsInitialized names t (CInitial.Value (number 10 5)) → ⊥
+pointer names t found initialized = pointed names t (let same : CType.Pointer CType.Int ≡ t = cc in sym same) initialized
 
 pub not_typed : NotTyped
 not_typed = (
-  λ typed. assignment (doing assigns_to_number) [] CType.Int (body_of [] (CStmts.more assigns_to_number CStmts.none) typed).0,
+  λ typed. assignment (names_in [] (CStmts.more assigns_to_number CStmts.none)) (body_of [] (CStmts.more assigns_to_number CStmts.none) typed).0,
   λ typed. cc ((body_of [] (CStmts.more returns_nothing CStmts.none) typed).0.1),
   λ typed. cc ((body_of [] (CStmts.more (CStmt.Break (token 6)) CStmts.none) typed).0),
   λ typed.
       let declared = (body_of (pointer_local ∷ []) points typed).0 in
-      pointer points_to_number (pointer_local ∷ []) CType.Int declared.local declared.found declared.initialized,
+      pointer (names_in (pointer_local ∷ []) points) declared.type declared.found declared.initialized,
 )

@@ -1,5 +1,5 @@
 -- When a typed program keeps the rules of typing.
-use Rattle.std.specs.Prelude.{◌≡◌, ℕ, ◌+◌, ◌<◌, ◌≤◌, Bool, true, false, ◌||◌, ◌==◌, All, Option, Some, None, List, [], ◌∷◌, length, take, slice_get, codes}
+use Rattle.std.specs.Prelude.{◌≡◌, ℕ, ◌+◌, ◌<◌, ◌≤◌, Bool, true, false, ◌||◌, ◌==◌, All, Option, Some, None, List, [], ◌∷◌, length, map, take, slice_get, codes}
 use Rattle.c_tree.specs.declared.operators.UnaryOperator.{UnaryOperator}
 use Rattle.c_tree.specs.declared.operators.UnaryOperator.TheVariants.{Address, Dereference, Plus, Minus, Complement, Not}
 use Rattle.c_tree.specs.declared.typed.GlobalObject.{GlobalObject}
@@ -9,8 +9,8 @@ use Rattle.c_tree.specs.declared.typed.InitialByte.TheVariants.{Byte, PointerPar
 use Rattle.c_tree.specs.Types.{CType, is_array, is_struct, IsScalar}
 use Rattle.c_tree.specs.TypedTree.{CExpr, CForm, CExprs, CInitial, CInitials, CInitializer, CDeclaration, CStart, CStmt, CStmts, CMember, CStruct, CGlobal, CLocal, CFunction, CProgram}
 use Rattle.c_tree.specs.Sizes.{largest, size_of, IsComplete, IsType, rounded_up, AreInOrder, end_of, greatest_align}
-use Rattle.c_tree.specs.TypedRules.{IsResult}
-use Rattle.c_tree.specs.TypedBody.{IsStmt}
+use Rattle.c_tree.specs.TypedRules.{IsResult, prototype_of}
+use Rattle.c_tree.specs.TypedBody.{Environment, IsStmt}
 
 -- Whether `&` is applied to local k, also below `sizeof`.
 abbrev pub is_local : ℕ → CExpr → Bool
@@ -155,6 +155,17 @@ abbrev pub IsBlock : CStmt → Bool
 IsBlock (CStmt.Block at xs) = true
 IsBlock _ = false
 
+-- what the names in a function of the program stand for
+abbrev pub environment_of : CProgram → CFunction → Environment
+environment_of p f = record {
+  structs = p.structs;
+  globals = map (λ g. g.ty) p.globals;
+  texts = p.texts;
+  functions = map prototype_of p.functions;
+  locals = map (λ l. l.ty) f.locals;
+  result = f.result;
+}
+
 -- 6.9.1: A function has at most 8 parameters, which are numbers or pointers; its body is a block.
 pub record IsFunction (p : CProgram) (f : CFunction) : Type 0 where
   pub result_type : IsType p.structs f.result
@@ -164,7 +175,7 @@ pub record IsFunction (p : CProgram) (f : CFunction) : Type 0 where
   pub params : All (λ l. IsScalar l.ty) (take f.params f.locals)
   pub locals : (k : ℕ) (l : CLocal) → slice_get f.locals k ≡ Some l → IsLocalObject p f k l
   pub block : IsBlock f.body ≡ true
-  pub body : IsStmt p f.locals f.result false f.body
+  pub body : IsStmt (environment_of p f) false f.body
 
 -- 5.1.2.2.1: the program begins in `int main(void)`
 pub record IsMain (p : CProgram) : Type 0 where

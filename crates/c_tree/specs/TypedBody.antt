@@ -1,62 +1,61 @@
 -- When the typed tree of a function's body keeps the rules of typing.
 use Rattle.std.specs.Prelude.{◌≡◌, ℕ, suc, ◌+◌, Bool, ◌||◌, true, false, IsTrue, Option, Some, None, List, [], ◌∷◌, length, slice_get}
 use Rattle.c_tree.specs.Types.{CType, is_array, is_struct}
-use Rattle.c_tree.specs.TypedTree.{CExpr, CForm, CExprs, CInitial, CInitials, CInitializer, CDeclaration, CStart, CStmt, CStmts, CGlobal, CLocal, CProgram, type_of}
+use Rattle.c_tree.specs.TypedTree.{CExpr, CForm, CExprs, CInitial, CInitials, CInitializer, CDeclaration, CStart, CStmt, CStmts, CStruct}
 use Rattle.c_tree.specs.Sizes.{IsComplete, IsType}
 use Rattle.c_tree.specs.TypedOperands.{IsPlain, IsConversion, IsGiven}
-use Rattle.c_tree.specs.TypedRules.{IsCondition, IsUnary, IsBinary, IsElement, IsMember, IsMemberBehind, IsStepped, AreAlternatives, IsAssignment, AreInTurn, IsCast, IsMeasured, IsCall, IsCopied, IsFilled, part_type, IsReturned}
+use Rattle.c_tree.specs.TypedRules.{Prototype, IsCondition, IsUnary, IsBinary, IsElement, IsMember, IsMemberBehind, IsStepped, AreAlternatives, IsAssignment, AreInTurn, IsCast, IsMeasured, IsCall, IsCopied, IsFilled, part_type, IsReturned}
 
 -- 6.4.4.1: a number is an int or an unsigned int
 pub data IsLiteral (t : CType) : Type 0 where
   int : t ≡ CType.Int → IsLiteral t
   unsigned : t ≡ CType.Unsigned → IsLiteral t
 
--- a local, a global and a string (6.4.5 p6) of that number have that type
-pub record IsLocal (locals : List CLocal) (k : ℕ) (t : CType) : Type 0 where
-  pub local : CLocal
-  pub found : slice_get locals k ≡ Some local
-  pub type : t ≡ local.ty
+-- What the names in a function stand for: the structs, the types of the global objects, the strings, the prototypes of
+-- the functions, the types of the locals, and the type of the function's result.
+pub record Environment : Type 0 where
+  pub structs : List CStruct
+  pub globals : List CType
+  pub texts : List (List ℕ)
+  pub functions : List Prototype
+  pub locals : List CType
+  pub result : CType
 
-pub record IsGlobal (globals : List CGlobal) (k : ℕ) (t : CType) : Type 0 where
-  pub global : CGlobal
-  pub found : slice_get globals k ≡ Some global
-  pub type : t ≡ global.ty
-
+-- 6.4.5 p6: a string is an array of its bytes and a zero
 pub record IsText (texts : List (List ℕ)) (k : ℕ) (t : CType) : Type 0 where
   pub bytes : List ℕ
   pub found : slice_get texts k ≡ Some bytes
   pub type : t ≡ CType.Array CType.Char (length bytes + 1)
 
--- in a function of these locals and this result
-module _ (p : CProgram) (locals : List CLocal) (result : CType) where
+module _ (names : Environment) where
   abbrev mutual
     -- An expression has a type that may be formed, and it is the one that the rule of its form gives it.
     pub IsExpr : CExpr → Type 0
-    IsExpr (CExpr.expr at t form) = IsType p.structs t × IsForm t form
+    IsExpr (CExpr.expr at t form) = IsType names.structs t × IsForm t form
 
     pub IsForm : CType → CForm → Type 0
-    IsForm t (CForm.Local k) = IsLocal locals k t
-    IsForm t (CForm.Global k) = IsGlobal p.globals k t
-    IsForm t (CForm.Text k) = IsText p.texts k t
+    IsForm t (CForm.Local k) = slice_get names.locals k ≡ Some t
+    IsForm t (CForm.Global k) = slice_get names.globals k ≡ Some t
+    IsForm t (CForm.Text k) = IsText names.texts k t
     IsForm t (CForm.Number n) = IsLiteral t
     IsForm t (CForm.Character n) = t ≡ CType.Int
     IsForm t CForm.Null = t ≡ CType.Pointer CType.Void
     IsForm t CForm.Eof = t ≡ CType.Int
     IsForm t (CForm.Convert c e) = IsExpr e × IsConversion c e t
-    IsForm t (CForm.Index a b) = IsExpr a × IsExpr b × IsElement p.structs a b t
-    IsForm t (CForm.Call f es) = AreExprs es × IsCall p.functions f es t
-    IsForm t (CForm.Member e m) = IsExpr e × IsMember p.structs e m t
-    IsForm t (CForm.Arrow e m) = IsExpr e × IsMemberBehind p.structs e m t
-    IsForm t (CForm.StepBefore op e) = IsExpr e × IsStepped p.structs e t
-    IsForm t (CForm.StepAfter op e) = IsExpr e × IsStepped p.structs e t
-    IsForm t (CForm.Unary op e) = IsExpr e × IsUnary p.structs op e t
-    IsForm t (CForm.Binary op a b) = IsExpr a × IsExpr b × IsBinary p.structs op a b t
+    IsForm t (CForm.Index a b) = IsExpr a × IsExpr b × IsElement names.structs a b t
+    IsForm t (CForm.Call f es) = AreExprs es × IsCall names.functions f es t
+    IsForm t (CForm.Member e m) = IsExpr e × IsMember names.structs e m t
+    IsForm t (CForm.Arrow e m) = IsExpr e × IsMemberBehind names.structs e m t
+    IsForm t (CForm.StepBefore op e) = IsExpr e × IsStepped names.structs e t
+    IsForm t (CForm.StepAfter op e) = IsExpr e × IsStepped names.structs e t
+    IsForm t (CForm.Unary op e) = IsExpr e × IsUnary names.structs op e t
+    IsForm t (CForm.Binary op a b) = IsExpr a × IsExpr b × IsBinary names.structs op a b t
     IsForm t (CForm.Conditional c a b) = IsExpr c × IsExpr a × IsExpr b × IsCondition c × AreAlternatives a b t
-    IsForm t (CForm.Assign op a b) = IsExpr a × IsExpr b × IsAssignment p.structs op a b t
+    IsForm t (CForm.Assign op a b) = IsExpr a × IsExpr b × IsAssignment names.structs op a b t
     IsForm t (CForm.Comma a b) = IsExpr a × IsExpr b × AreInTurn a b t
     IsForm t (CForm.Cast e) = IsExpr e × IsCast e t
-    IsForm t (CForm.SizeofExpression e) = IsExpr e × IsMeasured p.structs e t
-    IsForm t (CForm.SizeofType u) = IsType p.structs u × IsComplete p.structs u × (t ≡ CType.Unsigned)
+    IsForm t (CForm.SizeofExpression e) = IsExpr e × IsMeasured names.structs e t
+    IsForm t (CForm.SizeofType u) = IsType names.structs u × IsComplete names.structs u × (t ≡ CType.Unsigned)
 
     pub AreExprs : CExprs → Type 0
     AreExprs CExprs.none = Unit {0}
@@ -74,7 +73,7 @@ module _ (p : CProgram) (locals : List CLocal) (result : CType) where
     pub AreInitials : CType → ℕ → CInitials → Type 0
     AreInitials t i CInitials.none = Unit {0}
     AreInitials t i (CInitials.more x xs) =
-        ((u : CType) × (part_type p.structs t i ≡ Some u) × IsInitial u x) × AreInitials t (suc i) xs
+        ((u : CType) × (part_type names.structs t i ≡ Some u) × IsInitial u x) × AreInitials t (suc i) xs
 
   -- 6.7.9 p13: A declared struct as a whole may also be copied from a place.
   pub data IsInitialized (t : CType) : CInitial → Type 0 where
@@ -87,9 +86,9 @@ module _ (p : CProgram) (locals : List CLocal) (result : CType) where
 
   -- a declaration names a local, and its initializer fits it
   pub record IsDeclaration (d : CDeclaration) : Type 0 where
-    pub local : CLocal
-    pub found : slice_get locals d.local ≡ Some local
-    pub initialized : MayInitialize local.ty d.initializer
+    pub type : CType
+    pub found : slice_get names.locals d.local ≡ Some type
+    pub initialized : MayInitialize type d.initializer
 
   abbrev pub AreDeclarations : List CDeclaration → Type 0
   AreDeclarations [] = Unit {0}
@@ -135,7 +134,7 @@ module _ (p : CProgram) (locals : List CLocal) (result : CType) where
         IsStart start × IsTestedIfAny c × IsEvaluatedIfAny step × IsStmt true x
     IsStmt in_loop (CStmt.Break at) = IsTrue in_loop
     IsStmt in_loop (CStmt.Continue at) = IsTrue in_loop
-    IsStmt in_loop (CStmt.Return at e) = IsExprIfAny e × IsReturned result e
+    IsStmt in_loop (CStmt.Return at e) = IsExprIfAny e × IsReturned names.result e
 
     pub AreStmts : Bool → CStmts → Type 0
     AreStmts in_loop CStmts.none = Unit {0}

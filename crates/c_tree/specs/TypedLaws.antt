@@ -5,7 +5,7 @@ use Rattle.c_tree.specs.declared.operators.AssignOperator.TheVariants.{Assign}
 use Rattle.c_tree.specs.Types.{CType}
 use Rattle.c_tree.specs.TypedTree.{CExpr, CForm, CExprs, CInitial, CInitializer, CStmt, CStmts, CMember, CStruct, CLocal, CFunction, CProgram}
 use Rattle.c_tree.specs.Sizes.{largest, size_of, align_of, IsType}
-use Rattle.c_tree.specs.Counts.{nodes_of_program, values_of}
+use Rattle.c_tree.specs.Counts.{nodes_of_program, temps_of, values_of}
 use Rattle.c_tree.specs.Typed.{IsStruct, Typed}
 
 -- No type has more than 1,048,576 bytes.
@@ -15,6 +15,10 @@ TypesAreSmall = (structs : List CStruct) (t : CType) → All (IsStruct structs) 
 -- A tag that is never defined has no size, and no alignment but 1.
 abbrev pub UndefinedIsEmpty : Type 0
 UndefinedIsEmpty = (structs : List CStruct) (s : CStruct) → IsStruct structs s → s.members ≡ [] → (s.size ≡ 0) × (s.align ≡ 1)
+
+-- Each expression has 4 temporaries or more.
+abbrev pub TempsAtLeastFour : Type 0
+TempsAtLeastFour = (e : CExpr) → 4 ≤ temps_of e
 
 -- token n of a text of one line
 abbrev pub token : ℕ → At

@@ -267,18 +267,13 @@ prototype_in_library Free = record { result = CType.Void; params = void_pointer 
 prototype_in_library Memcpy = record { result = void_pointer; params = void_pointer ∷ void_pointer ∷ CType.Unsigned ∷ [] }
 prototype_in_library Memset = record { result = void_pointer; params = void_pointer ∷ CType.Int ∷ CType.Unsigned ∷ [] }
 
--- the types of these locals
-abbrev pub types_of : List CLocal → List CType
-types_of [] = []
-types_of (l ∷ ls) = l.ty ∷ types_of ls
-
-abbrev pub prototype_of : Option CFunction → Option Prototype
-prototype_of None = None
-prototype_of (Some f) = Some (record { result = f.result; params = types_of (take f.params f.locals) })
+-- the prototype of a defined function
+abbrev pub prototype_of : CFunction → Prototype
+prototype_of f = record { result = f.result; params = map (λ l. l.ty) (take f.params f.locals) }
 
 -- the prototype of what a call names, if there is such a function
-abbrev pub called_prototype : List CFunction → Called → Option Prototype
-called_prototype functions (Defined k) = prototype_of (slice_get functions k)
+abbrev pub called_prototype : List Prototype → Called → Option Prototype
+called_prototype functions (Defined k) = slice_get functions k
 called_prototype functions (Library f) = Some (prototype_in_library f)
 
 -- 6.5.2.2 p2, p7: there are as many arguments as parameters, and each is given to its parameter's type
@@ -289,7 +284,7 @@ AreGiven (t ∷ ts) CExprs.none = ⊥
 AreGiven (t ∷ ts) (CExprs.more e es) = IsGiven t e × AreGiven ts es
 
 -- 6.5.2.2: A call names a function, has arguments for its parameters, and has the type of its result.
-pub record IsCall (functions : List CFunction) (called : Called) (arguments : CExprs) (t : CType) : Type 0 where
+pub record IsCall (functions : List Prototype) (called : Called) (arguments : CExprs) (t : CType) : Type 0 where
   pub prototype : Prototype
   pub found : called_prototype functions called ≡ Some prototype
   pub given : AreGiven prototype.params arguments

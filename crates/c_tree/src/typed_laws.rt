@@ -1,5 +1,5 @@
 //! Laws of the typed tree.
-ghost use Rattle.c_tree.specs.TypedLaws.{TypesAreSmall, UndefinedIsEmpty, FortyTwo, ManyLocals, Mixed, NotTyped};
+ghost use Rattle.c_tree.specs.TypedLaws.{TypesAreSmall, UndefinedIsEmpty, TempsAtLeastFour, FortyTwo, ManyLocals, Mixed, NotTyped};
 
 /// No type of a typed program has more than 1,048,576 bytes.
 pub fn types_are_small()
@@ -10,6 +10,12 @@ pub fn types_are_small()
 pub fn undefined_is_empty()
     ensures { UndefinedIsEmpty }
 {}
+
+/// Each expression has 4 temporaries or more.
+pub fn temps_at_least_four()
+    ensures { TempsAtLeastFour }
+{
+}
 
 /// The tree of `int main(void){return 42;}` is typed and has 4 nodes.
 pub fn forty_two()
