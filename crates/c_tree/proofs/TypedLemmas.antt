@@ -1,10 +1,10 @@
 -- Facts on the typed tree.
-use Rattle.std.proofs.Common.{◌≡◌, ℕ, suc, ◌+◌, ◌*◌, ◌≤◌, ◌<◌, List, [], length, get_or, refl, arith, subst}
+use Rattle.std.proofs.Common.{◌≡◌, ℕ, ◌≤◌, List, [], refl, arith, subst}
 use Rattle.std.specs.Prelude.{All, Option, Some, None, slice_get}
 use Rattle.std.proofs.lemmas.Option.{slice_get_within, get_or_from_slice_get}
 use Rattle.c_tree.specs.Types.{CType}
-use Rattle.c_tree.specs.TypedTree.{CExpr, CForm, CExprs, CStruct, CMember}
-use Rattle.c_tree.specs.Sizes.{largest, size_of, struct_size, IsType, rounded_up, greatest_align, end_of}
+use Rattle.c_tree.specs.TypedTree.{CExpr, CForm, CExprs, CStruct}
+use Rattle.c_tree.specs.Sizes.{largest, struct_size}
 use Rattle.c_tree.specs.Counts.{temps_of, temps_of_form, temps_of_call}
 use Rattle.c_tree.specs.Typed.{LiesIn, IsStruct}
 use Rattle.c_tree.specs.TypedLaws.{TypesAreSmall, UndefinedIsEmpty, TempsAtLeastFour}

@@ -1,14 +1,14 @@
 -- The judgement of the small programs.
-use Rattle.std.proofs.Common.{◌≡◌, ◌≢◌, ℕ, suc, ◌+◌, ◌≤◌, ◌<◌, Bool, true, false, List, [], ◌∷◌, length, refl, sym, ap, arith}
-use Rattle.std.specs.Prelude.{All, Option, Some, None, slice_get}
+use Rattle.std.proofs.Common.{◌≡◌, ℕ, true, false, List, [], ◌∷◌, refl, sym, arith}
+use Rattle.std.specs.Prelude.{Some, slice_get}
 use Rattle.std.proofs.lemmas.List.Elements.{All-nil, All-cons, All-head, All-from_recursion}
 use Rattle.c_tree.specs.Types.{CType, is_struct}
-use Rattle.c_tree.specs.TypedTree.{CInitial, CStmt, CStmts, CStruct, CMember, CGlobal, CLocal, CFunction, CProgram}
+use Rattle.c_tree.specs.TypedTree.{CInitial, CStmt, CStmts, CLocal, CFunction, CProgram}
 use Rattle.c_tree.specs.Sizes.{IsType, IsComplete}
 use Rattle.c_tree.specs.TypedRules.{IsResult, IsSet}
 use Rattle.c_tree.specs.TypedBody.{Environment, IsLiteral, IsInitialized, IsStmt, AreStmts}
-use Rattle.c_tree.specs.Typed.{environment_of, IsStruct, IsFunction, IsLocalObject, IsMain, IsGlobalObject, Typed}
-use Rattle.c_tree.specs.TypedLaws.{forty_two, main_function, main_of, return_number, doing, number, token, mixed, assigns_to_number, returns_nothing, pointer_local, points, points_to_number, Mixed, NotTyped}
+use Rattle.c_tree.specs.Typed.{environment_of, IsStruct, IsFunction, IsLocalObject, IsGlobalObject, Typed}
+use Rattle.c_tree.specs.TypedLaws.{forty_two, main_function, main_of, return_number, number, token, mixed, assigns_to_number, returns_nothing, pointer_local, points, Mixed, NotTyped}
 use Rattle.c_tree.proofs.TypedLemmas.{none_lies}
 
 no_local : (p : CProgram) (f : CFunction) (k : ℕ) (l : CLocal) → slice_get [] k ≡ Some l → IsLocalObject p f k l

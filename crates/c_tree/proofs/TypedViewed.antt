@@ -1,11 +1,11 @@
 -- What each variant of the typed tree stands for.
-use Rattle.std.proofs.Common.{◌≡◌, ℕ, rules, Vec, Global, List, [], ◌∷◌, refl, ap}
-use Rattle.std.specs.Prelude.{Box, Option, Some, None, map}
+use Rattle.std.proofs.Common.{◌≡◌, ℕ, rules, Vec, Global, refl, ap}
+use Rattle.std.specs.Prelude.{Box, Option, Some, None}
 use Rattle.std.specs.Option.{option_map}
 use Rattle.c_tree.specs.declared.place.At.{At}
 use Rattle.c_tree.specs.declared.typed_expr.Called.{Called}
 use Rattle.c_tree.specs.declared.typed_expr.TypedExpr.{TypedExpr}
-use Rattle.c_tree.specs.declared.typed_expr.TypedForm.{TypedForm, the_lemmas as form_lemmas, Row_of-TypedExpr, end_of-TypedExpr, more_of-TypedExpr, items-the_row-TypedExpr}
+use Rattle.c_tree.specs.declared.typed_expr.TypedForm.{the_lemmas as form_lemmas, Row_of-TypedExpr, end_of-TypedExpr, more_of-TypedExpr, items-the_row-TypedExpr}
 use Rattle.c_tree.specs.declared.typed_expr.TypedForm.TheVariants as form
 use Rattle.c_tree.specs.declared.typed_stmt.TypedInitial.{TypedInitial, the_lemmas as initial_lemmas}
 use Rattle.c_tree.specs.declared.typed_stmt.TypedInitial.TheVariants as initial
@@ -13,7 +13,7 @@ use Rattle.c_tree.specs.declared.typed_stmt.TypedDeclaration.{TypedDeclaration}
 use Rattle.c_tree.specs.declared.typed_stmt.TypedStart.{TypedStart}
 use Rattle.c_tree.specs.declared.typed_stmt.TypedStmt.{TypedStmt, the_lemmas as stmt_lemmas}
 use Rattle.c_tree.specs.declared.typed_stmt.TypedStmt.TheVariants as stmt
-use Rattle.c_tree.specs.TypedTree.{CExpr, CForm, CExprs, CInitial, CInitials, CStmt, CStmts}
+use Rattle.c_tree.specs.TypedTree.{CForm, CExprs, CInitial, CStmt}
 use Rattle.c_tree.specs.TypedViews.{viewed, form_view, row_view, expr_of, exprs_of, initial_of, initials_of, declaration_of, start_of, stmt_of, stmts_of}
 
 -- a call's arguments, in the row of its `Vec` and as a list

@@ -1,5 +1,5 @@
 -- A type that is none of the kinds before is another one.
-use Rattle.std.proofs.Common.{◌≡◌, ℕ, Global, Bool, false, refl}
+use Rattle.std.proofs.Common.{◌≡◌, ℕ, Global, false, refl}
 use Rattle.std.specs.Prelude.{Box}
 use Rattle.c_tree.specs.declared.types.Ty.{Ty, Void, Char, Int, Unsigned, Struct, Pointer', Array'}
 use Rattle.c_tree.specs.declared.types.Ty.TheVariants as v

@@ -1,5 +1,5 @@
 -- How much of a function counts against the limits: nodes, values and temporaries.
-use Rattle.std.specs.Prelude.{ℕ, suc, ◌+◌, max, Bool, true, false, if◌then◌else◌, Option, Some, None, List, [], ◌∷◌, length, drop}
+use Rattle.std.specs.Prelude.{ℕ, suc, ◌+◌, max, if◌then◌else◌, Option, Some, None, List, [], ◌∷◌, length, drop}
 use Rattle.c_tree.specs.TypedTree.{CExpr, CForm, CExprs, CInitial, CInitials, CInitializer, CDeclaration, CStart, CStmt, CStmts, CLocal, CFunction, CProgram}
 
 -- The nodes of an expression: one for each name, constant, string, operator, call, cast and `sizeof`. Called names and

@@ -1,5 +1,5 @@
 -- When the typed tree of a function's body keeps the rules of typing.
-use Rattle.std.specs.Prelude.{◌≡◌, ℕ, suc, ◌+◌, Bool, ◌||◌, true, false, IsTrue, Option, Some, None, List, [], ◌∷◌, length, slice_get}
+use Rattle.std.specs.Prelude.{◌≡◌, ℕ, suc, ◌+◌, Bool, ◌||◌, true, IsTrue, Option, Some, None, List, [], ◌∷◌, length, slice_get}
 use Rattle.c_tree.specs.Types.{CType, is_array, is_struct}
 use Rattle.c_tree.specs.TypedTree.{CExpr, CForm, CExprs, CInitial, CInitials, CInitializer, CDeclaration, CStart, CStmt, CStmts, CStruct}
 use Rattle.c_tree.specs.Sizes.{IsComplete, IsType}

@@ -1,10 +1,10 @@
 -- What follows from the definitions of the typed tree, and small programs by which they can be judged.
-use Rattle.std.specs.Prelude.{◌≡◌, ℕ, ◌≤◌, Bool, true, false, All, Option, Some, None, List, [], ◌∷◌, replicate, codes}
+use Rattle.std.specs.Prelude.{◌≡◌, ℕ, ◌≤◌, false, All, Some, None, List, [], ◌∷◌, replicate, codes}
 use Rattle.c_tree.specs.declared.place.At.{At}
 use Rattle.c_tree.specs.declared.operators.AssignOperator.TheVariants.{Assign}
 use Rattle.c_tree.specs.Types.{CType}
-use Rattle.c_tree.specs.TypedTree.{CExpr, CForm, CExprs, CInitial, CInitializer, CStmt, CStmts, CMember, CStruct, CLocal, CFunction, CProgram}
-use Rattle.c_tree.specs.Sizes.{largest, size_of, align_of, IsType}
+use Rattle.c_tree.specs.TypedTree.{CExpr, CForm, CInitial, CStmt, CStmts, CStruct, CLocal, CFunction, CProgram}
+use Rattle.c_tree.specs.Sizes.{largest, size_of, IsType}
 use Rattle.c_tree.specs.Counts.{nodes_of_program, temps_of, values_of}
 use Rattle.c_tree.specs.Typed.{IsStruct, Typed}
 

@@ -1,6 +1,6 @@
 -- The rules of typing, one definition each: what the operands of an operator and its type are (C11 6.5), what an
 -- initializer fits (6.7.9), and what a function may be (6.7.6.3, 6.9.1).
-use Rattle.std.specs.Prelude.{◌≡◌, ◌≢◌, ℕ, ◌+◌, ◌<◌, ◌≤◌, nat_lt, Bool, true, false, IsTrue, if◌then◌else◌, Option, Some, None, List, [], ◌∷◌, length, map, take, slice_get}
+use Rattle.std.specs.Prelude.{◌≡◌, ◌≢◌, ℕ, ◌≤◌, nat_lt, false, IsTrue, if◌then◌else◌, Option, Some, None, List, [], ◌∷◌, length, map, take, slice_get}
 use Rattle.c_tree.specs.declared.operators.UnaryOperator.{UnaryOperator}
 use Rattle.c_tree.specs.declared.operators.UnaryOperator.TheVariants as unary
 use Rattle.c_tree.specs.declared.operators.BinaryOperator.{BinaryOperator}
@@ -11,9 +11,9 @@ use Rattle.c_tree.specs.declared.typed_expr.LibCall.{LibCall}
 use Rattle.c_tree.specs.declared.typed_expr.LibCall.TheVariants.{Putchar, Getchar, Exit, Malloc, Calloc, Free, Memcpy, Memset}
 use Rattle.c_tree.specs.declared.typed_expr.Called.{Called}
 use Rattle.c_tree.specs.declared.typed_expr.Called.TheVariants.{Defined, Library}
-use Rattle.c_tree.specs.Types.{CType, is_array, is_struct, IsNumber, IsPointer, IsScalar, promoted, common}
-use Rattle.c_tree.specs.TypedTree.{CExpr, CForm, CExprs, CMember, CStruct, CGlobal, CLocal, CFunction, CProgram, type_of}
-use Rattle.c_tree.specs.Sizes.{is_complete, IsComplete, member_at}
+use Rattle.c_tree.specs.Types.{CType, is_array, is_struct, IsNumber, IsPointer, IsScalar, common}
+use Rattle.c_tree.specs.TypedTree.{CExpr, CExprs, CStruct, CFunction, type_of}
+use Rattle.c_tree.specs.Sizes.{IsComplete, member_at}
 use Rattle.c_tree.specs.TypedOperands.{is_place, is_null, IsWritten, IsPlain, own_type, unconverted, IsGiven, IsPromoted, meeting_type}
 
 -- the pointers to a complete type

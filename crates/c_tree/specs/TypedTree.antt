@@ -1,5 +1,5 @@
 -- The typed tree, as contracts see it. Each type is that of the same name in the program, without memory.
-use Rattle.std.specs.Prelude.{ℕ, Bool, true, false, ◌==◌, List, Option}
+use Rattle.std.specs.Prelude.{ℕ, Bool, List, Option}
 use Rattle.c_tree.specs.declared.place.At.{At}
 use Rattle.c_tree.specs.declared.operators.UnaryOperator.{UnaryOperator}
 use Rattle.c_tree.specs.declared.operators.StepOperator.{StepOperator}

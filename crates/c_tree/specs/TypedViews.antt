@@ -1,5 +1,5 @@
 -- What the trees of the program stand for: one view for each type, to the type of the same name in `TypedTree`.
-use Rattle.std.specs.Prelude.{◌≡◌, ℕ, List, [], ◌∷◌, map, Option, Some, None, Box}
+use Rattle.std.specs.Prelude.{List, [], ◌∷◌, map, Some, None}
 use Rattle.std.specs.Option.{option_map}
 use Rattle.c_tree.specs.declared.place.At.{At}
 use Rattle.c_tree.specs.declared.types.Ty.{Ty}
@@ -19,7 +19,6 @@ use Rattle.c_tree.specs.declared.typed.Global.{Global as TheGlobal}
 use Rattle.c_tree.specs.declared.typed.Local.{Local as TheLocal}
 use Rattle.c_tree.specs.declared.typed.Function.{Function}
 use Rattle.c_tree.specs.declared.typed.Program.{Program}
-use Rattle.c_tree.specs.Types.{CType}
 use Rattle.c_tree.specs.TypesViewed.{ty_of}
 use Rattle.c_tree.specs.TypedTree.{CExpr, CForm, CExprs, CInitial, CInitials, CInitializer, CDeclaration, CStart, CStmt, CStmts, CMember, CStruct, CGlobal, CLocal, CFunction, CProgram}
 

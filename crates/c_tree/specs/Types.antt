@@ -1,5 +1,5 @@
 -- Types (C11 6.2.5), as contracts see them.
-use Rattle.std.specs.Prelude.{◌≡◌, ℕ, Bool, true, false, ◌==◌, ◌&&◌, ◌||◌, IsTrue, if◌then◌else◌}
+use Rattle.std.specs.Prelude.{ℕ, Bool, true, false, ◌==◌, ◌&&◌, ◌||◌, IsTrue, if◌then◌else◌}
 
 pub data CType : Type 0 where
   Void : CType

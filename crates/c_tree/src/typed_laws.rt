@@ -14,8 +14,7 @@ pub fn undefined_is_empty()
 /// Each expression has 4 temporaries or more.
 pub fn temps_at_least_four()
     ensures { TempsAtLeastFour }
-{
-}
+{}
 
 /// The tree of `int main(void){return 42;}` is typed and has 4 nodes.
 pub fn forty_two()
