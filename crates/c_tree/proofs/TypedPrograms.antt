@@ -22,7 +22,7 @@ forty_two_body = record {
   params_within = omega arith;
   params = All-nil _;
   locals = no_local _ _;
-  block = refl;
+  block = tt;
   body = (((tt, IsLiteral.int refl), (refl, refl)), tt);
 }
 

@@ -151,9 +151,9 @@ pub record IsLocalObject (p : CProgram) (f : CFunction) (k : ℕ) (l : CLocal) :
   pub size : l.size ≡ size_of p.structs l.ty
   pub is_block : l.is_block ≡ (is_array l.ty || is_struct l.ty || stmt_refers k f.body)
 
-abbrev pub IsBlock : CStmt → Bool
-IsBlock (CStmt.Block at xs) = true
-IsBlock _ = false
+abbrev pub IsBlock : CStmt → Type 0
+IsBlock (CStmt.Block at xs) = Unit {0}
+IsBlock _ = ⊥
 
 -- what the names in a function of the program stand for
 abbrev pub environment_of : CProgram → CFunction → Environment
@@ -174,7 +174,7 @@ pub record IsFunction (p : CProgram) (f : CFunction) : Type 0 where
   pub params_within : f.params ≤ length f.locals
   pub params : All (λ l. IsScalar l.ty) (take f.params f.locals)
   pub locals : (k : ℕ) (l : CLocal) → slice_get f.locals k ≡ Some l → IsLocalObject p f k l
-  pub block : IsBlock f.body ≡ true
+  pub block : IsBlock f.body
   pub body : IsStmt (environment_of p f) false f.body
 
 -- 5.1.2.2.1: the program begins in `int main(void)`

@@ -137,7 +137,6 @@ impl Drop for TypedStmt {
     }
 }
 
-#[tactic(auto, using(crate::proofs::TypedViewed::typed_views))]
 impl TypedStmt {
     /// `if (condition) body`
     pub fn if_then(
