@@ -1,5 +1,5 @@
 -- When a typed program keeps the rules of typing.
-use Rattle.std.specs.Prelude.{◌≡◌, ℕ, ◌+◌, ◌<◌, ◌≤◌, Bool, true, false, ◌||◌, ◌==◌, All, Option, Some, None, List, [], ◌∷◌, length, map, take, slice_get, codes}
+use Rattle.std.specs.Prelude.{◌≡◌, ℕ, ◌+◌, ◌<◌, ◌≤◌, Bool, false, ◌||◌, ◌==◌, All, Option, Some, None, List, [], ◌∷◌, length, map, take, slice_get, codes}
 use Rattle.c_tree.specs.declared.operators.UnaryOperator.{UnaryOperator}
 use Rattle.c_tree.specs.declared.operators.UnaryOperator.TheVariants.{Address, Dereference, Plus, Minus, Complement, Not}
 use Rattle.c_tree.specs.declared.typed.GlobalObject.{GlobalObject}
