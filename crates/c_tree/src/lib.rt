@@ -1,5 +1,6 @@
 //! The syntax of C: tokens' words, and the trees of the language.
 #![tactic(auto)]
 
+pub mod operators;
 pub mod place;
 pub mod words;
