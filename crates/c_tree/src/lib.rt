@@ -3,4 +3,5 @@
 
 pub mod operators;
 pub mod place;
+pub mod syntax;
 pub mod words;
