@@ -1,1 +1,10 @@
+pub mod Grammar
+pub mod GrammarDeclarations
+pub mod GrammarExpressions
+pub mod GrammarLimits
+pub mod GrammarStatements
+pub mod GrammarTokens
+pub mod Syntax
+pub mod SyntaxHeights
+pub mod SyntaxViews
 pub mod Tokens

@@ -11,7 +11,7 @@ pub enum Initializer {
     /// One expression.
     Expression(Expression),
     /// Parts in braces, one or more.
-    List { at: At, parts: Vec<Initializer> },
+    Braced { at: At, parts: Vec<Initializer> },
 }
 
 /// A declarator with or without its initialiser (C11 6.7). It stands at its `=`, or at the declared name where there is

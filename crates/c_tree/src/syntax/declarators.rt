@@ -28,7 +28,7 @@ pub enum ParameterDeclarator {
         arrays: Vec<Array>,
     },
     /// Pointers, then brackets, then arrays.
-    Bracketed {
+    Nested {
         at: At,
         stars: u32,
         inner: Box<ParameterDeclarator>,
@@ -50,7 +50,7 @@ pub enum Parameters {
     /// `void` alone: no parameters
     Void { at: At },
     /// One parameter or more.
-    List {
+    Listed {
         at: At,
         parameters: Vec<Parameter>,
     },
@@ -79,7 +79,7 @@ pub enum Declarator {
         suffixes: Vec<Suffix>,
     },
     /// Pointers, then brackets, then suffixes.
-    Bracketed {
+    Nested {
         at: At,
         stars: u32,
         inner: Box<Declarator>,

@@ -127,7 +127,7 @@ pub enum TypeDeclarator {
         sizes: Vec<Expression>,
     },
     /// Pointers, then brackets, then array sizes.
-    Bracketed {
+    Nested {
         at: At,
         stars: u32,
         inner: Box<TypeDeclarator>,
