@@ -26,15 +26,15 @@ module _ (limits : Limits) where
   -- external = ( specifier | struct_def ) ( ";" | declarator block | init_decls ";" )  (6.9)
   pub data IsExternal : Level → List Placed → ExternalTree → Type 0 where
     nothing : {d : Level} {at : At} {hs : List Placed} {h : HeadTree} → IsHead d at hs h → (to : At)
-      → IsExternal d (hs ++ (mark m.Semicolon to ∷ [])) (ExternalTree.Declaration at h [])
+        → IsExternal d (hs ++ (mark m.Semicolon to ∷ [])) (ExternalTree.Declaration at h [])
     function : {d : Level} {at : At} {hs : List Placed} {h : HeadTree} {ts : List Placed} {t : DeclaratorTree} {us : List Placed} {body : BlockTree}
-      → IsHead d at hs h → IsDeclarator limits d ts t → IsBlock limits d us body
-      → IsExternal d (hs ++ (ts ++ us)) (ExternalTree.Function at h t body)
+        → IsHead d at hs h → IsDeclarator limits d ts t → IsBlock limits d us body
+        → IsExternal d (hs ++ (ts ++ us)) (ExternalTree.Function at h t body)
     listed : {d : Level} {at : At} {hs : List Placed} {h : HeadTree} {ts : List Placed} {declarators : List InitDeclaratorTree}
-      → IsHead d at hs h → Commas (IsInitDeclarator limits d) ts declarators → (to : At)
-      → IsExternal d (hs ++ (ts ++ (mark m.Semicolon to ∷ []))) (ExternalTree.Declaration at h declarators)
+        → IsHead d at hs h → Commas (IsInitDeclarator limits d) ts declarators → (to : At)
+        → IsExternal d (hs ++ (ts ++ (mark m.Semicolon to ∷ []))) (ExternalTree.Declaration at h declarators)
 
   -- unit = { external }  (6.9)
   pub data Derives : List Placed → UnitTree → Type 0 where
     unit : {ts : List Placed} {externals : List ExternalTree} → Many (IsExternal limits.outermost) ts externals
-      → Derives ts (record { at = first_at ts start_of_file; externals = externals })
+        → Derives ts (record { at = first_at ts start_of_file; externals = externals })

@@ -44,13 +44,13 @@ pub data Many {A : Type 0} (Is : List Placed → A → Type 0) : List Placed →
 pub data Commas {A : Type 0} (Is : List Placed → A → Type 0) : List Placed → List A → Type 0 where
   last : {ts : List Placed} {x : A} → Is ts x → Commas Is ts (x ∷ [])
   next : {ts : List Placed} {x : A} {us : List Placed} {xs : List A} → Is ts x → (comma : At) → Commas Is us xs
-    → Commas Is (ts ++ (mark m.Comma comma ∷ us)) (x ∷ xs)
+      → Commas Is (ts ++ (mark m.Comma comma ∷ us)) (x ∷ xs)
 
 -- strings side by side (C11 6.4.5), one or more; the place is that of the first
 pub data AreStrings : At → List Placed → List (List ℕ) → Type 0 where
   one : {at : At} {bytes : List ℕ} → AreStrings at (record { token = Token.Text bytes; at = at } ∷ []) (bytes ∷ [])
   another : {at : At} {bytes : List ℕ} {next : At} {ts : List Placed} {pieces : List (List ℕ)} → AreStrings next ts pieces
-    → AreStrings at (record { token = Token.Text bytes; at = at } ∷ ts) (bytes ∷ pieces)
+      → AreStrings at (record { token = Token.Text bytes; at = at } ∷ ts) (bytes ∷ pieces)
 
 -- the operators before an operand (6.5.3), but for `++`, `--` and `sizeof`
 abbrev pub unary_operator : Punctuator → Option UnaryOperator

@@ -13,7 +13,9 @@ pub mod specifiers;
 pub mod statements;
 pub mod units;
 
-pub use declarations::{Declaration, InitDeclarator, Initializer, MemberDeclaration, StructDefinition};
+pub use declarations::{
+    Declaration, InitDeclarator, Initializer, MemberDeclaration, StructDefinition,
+};
 pub use declarators::{Array, Declarator, Parameter, ParameterDeclarator, Parameters, Suffix};
 pub use expressions::{Expression, TypeDeclarator, TypeName};
 pub use specifiers::Specifier;
