@@ -73,13 +73,13 @@ type_declarator_level (TypeDeclarator-F.Nested at n t es) = TypeDeclaratorTree.N
 abbrev pub type_name_level : TypeName-F ExpressionTree TypeDeclaratorTree TypeNameTree → TypeNameTree
 type_name_level t = TypeNameTree.type_name t.at t.specifier t.declarator
 
-abbrev pub expression_tree : Expression → ExpressionTree
+unfoldable pub expression_tree : Expression → ExpressionTree
 expression_tree = fold-Expression ExpressionTree TypeDeclaratorTree TypeNameTree expression_level type_declarator_level type_name_level
 
-abbrev pub type_declarator_tree : TypeDeclarator → TypeDeclaratorTree
+unfoldable pub type_declarator_tree : TypeDeclarator → TypeDeclaratorTree
 type_declarator_tree = fold-TypeDeclarator ExpressionTree TypeDeclaratorTree TypeNameTree expression_level type_declarator_level type_name_level
 
-abbrev pub type_name_tree : TypeName → TypeNameTree
+unfoldable pub type_name_tree : TypeName → TypeNameTree
 type_name_tree = fold-TypeName ExpressionTree TypeDeclaratorTree TypeNameTree expression_level type_declarator_level type_name_level
 
 abbrev pub expression_trees : List Expression → ExpressionTrees
@@ -94,7 +94,7 @@ parameter_declarator_level (ParameterDeclarator-F.Unnamed at n arrays) = Paramet
 parameter_declarator_level (ParameterDeclarator-F.Named at n x arrays) = ParameterDeclaratorTree.Named at n x (map array_tree arrays.items)
 parameter_declarator_level (ParameterDeclarator-F.Nested at n t arrays) = ParameterDeclaratorTree.Nested at n t.value (map array_tree arrays.items)
 
-abbrev pub parameter_declarator_tree : ParameterDeclarator → ParameterDeclaratorTree
+unfoldable pub parameter_declarator_tree : ParameterDeclarator → ParameterDeclaratorTree
 parameter_declarator_tree = fold-ParameterDeclarator ParameterDeclaratorTree parameter_declarator_level
 
 abbrev pub parameter_tree : Parameter → ParameterTree
@@ -112,7 +112,7 @@ abbrev pub declarator_level : Declarator-F DeclaratorTree → DeclaratorTree
 declarator_level (Declarator-F.Named at n x suffixes) = DeclaratorTree.Named at n x (map suffix_tree suffixes.items)
 declarator_level (Declarator-F.Nested at n t suffixes) = DeclaratorTree.Nested at n t.value (map suffix_tree suffixes.items)
 
-abbrev pub declarator_tree : Declarator → DeclaratorTree
+unfoldable pub declarator_tree : Declarator → DeclaratorTree
 declarator_tree = fold-Declarator DeclaratorTree declarator_level
 
 -- declarations
@@ -120,7 +120,7 @@ abbrev pub initializer_level : Initializer-F InitializerTree → InitializerTree
 initializer_level (Initializer-F.Expression e) = InitializerTree.Expression (expression_tree e)
 initializer_level (Initializer-F.Braced at is) = InitializerTree.Braced at (listed_parts is.items)
 
-abbrev pub initializer_tree : Initializer → InitializerTree
+unfoldable pub initializer_tree : Initializer → InitializerTree
 initializer_tree = fold-Initializer InitializerTree initializer_level
 
 abbrev pub initializer_trees : List Initializer → InitializerTrees
@@ -163,13 +163,13 @@ abbrev pub block_item_level : BlockItem-F BlockItemTree StatementTree BlockTree 
 block_item_level (BlockItem-F.Declaration d) = BlockItemTree.Declaration (declaration_tree d)
 block_item_level (BlockItem-F.Statement x) = BlockItemTree.Statement x
 
-abbrev pub statement_tree : Statement → StatementTree
+unfoldable pub statement_tree : Statement → StatementTree
 statement_tree = fold-Statement BlockItemTree StatementTree BlockTree block_item_level statement_level block_level
 
-abbrev pub block_tree : Block → BlockTree
+unfoldable pub block_tree : Block → BlockTree
 block_tree = fold-Block BlockItemTree StatementTree BlockTree block_item_level statement_level block_level
 
-abbrev pub block_item_tree : BlockItem → BlockItemTree
+unfoldable pub block_item_tree : BlockItem → BlockItemTree
 block_item_tree = fold-BlockItem BlockItemTree StatementTree BlockTree block_item_level statement_level block_level
 
 abbrev pub block_item_trees : List BlockItem → BlockItemTrees
