@@ -1,5 +1,6 @@
 pub mod Grammar
 pub mod GrammarDeclarations
+pub mod GrammarExamples
 pub mod GrammarExpressions
 pub mod GrammarLimits
 pub mod GrammarStatements

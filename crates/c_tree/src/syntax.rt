@@ -9,9 +9,13 @@
 pub mod declarations;
 pub mod declarators;
 pub mod expressions;
+pub mod grammar;
 pub mod specifiers;
 pub mod statements;
 pub mod units;
+
+#[cfg(test)]
+mod tests;
 
 pub use declarations::{
     Declaration, InitDeclarator, Initializer, MemberDeclaration, StructDefinition,

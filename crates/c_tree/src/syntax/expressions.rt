@@ -138,7 +138,10 @@ pub enum Expression {
 impl Expression {
     /// `( inner )`
     pub fn bracketed(alloc: Global, at: At, inner: Expression) -> Result<Expression, AllocError>
-        ensures { IfOk result (λ e. expression_tree e ≡ ExpressionTree.Bracketed at (expression_tree inner)) }
+        ensures {
+            IfOk result (λ e. expression_tree e
+                ≡ ExpressionTree.Bracketed at (expression_tree inner))
+        }
     {
         Ok(Expression::Bracketed {
             at,
@@ -153,13 +156,13 @@ impl Expression {
         array: Expression,
         index: Expression,
     ) -> Result<Expression, AllocError>
-        ensures { IfOk result (λ e. expression_tree e ≡ ExpressionTree.Index at (expression_tree array) (expression_tree index)) }
+        ensures {
+            IfOk result (λ e. expression_tree e
+                ≡ ExpressionTree.Index at (expression_tree array) (expression_tree index))
+        }
     {
-        Ok(Expression::Index {
-            at,
-            array: Box::new(alloc, array)?,
-            index: Box::new(alloc, index)?,
-        })
+        let (array, index) = boxed_pair(alloc, array, index)?;
+        Ok(Expression::Index { at, array, index })
     }
 
     /// `called ( arguments )`
@@ -169,7 +172,10 @@ impl Expression {
         called: Expression,
         arguments: Vec<Expression>,
     ) -> Result<Expression, AllocError>
-        ensures { IfOk result (λ e. expression_tree e ≡ ExpressionTree.Call at (expression_tree called) (expression_trees arguments.items)) }
+        ensures {
+            IfOk result (λ e. expression_tree e
+                ≡ ExpressionTree.Call at (expression_tree called) (expression_trees arguments.items))
+        }
     {
         Ok(Expression::Call {
             at,
@@ -185,7 +191,10 @@ impl Expression {
         object: Expression,
         member: Name,
     ) -> Result<Expression, AllocError>
-        ensures { IfOk result (λ e. expression_tree e ≡ ExpressionTree.Member at (expression_tree object) member) }
+        ensures {
+            IfOk result (λ e. expression_tree e
+                ≡ ExpressionTree.Member at (expression_tree object) member)
+        }
     {
         Ok(Expression::Member {
             at,
@@ -201,7 +210,10 @@ impl Expression {
         pointer: Expression,
         member: Name,
     ) -> Result<Expression, AllocError>
-        ensures { IfOk result (λ e. expression_tree e ≡ ExpressionTree.Arrow at (expression_tree pointer) member) }
+        ensures {
+            IfOk result (λ e. expression_tree e
+                ≡ ExpressionTree.Arrow at (expression_tree pointer) member)
+        }
     {
         Ok(Expression::Arrow {
             at,
@@ -217,7 +229,10 @@ impl Expression {
         operand: Expression,
         operator: StepOperator,
     ) -> Result<Expression, AllocError>
-        ensures { IfOk result (λ e. expression_tree e ≡ ExpressionTree.StepAfter at (expression_tree operand) operator) }
+        ensures {
+            IfOk result (λ e. expression_tree e
+                ≡ ExpressionTree.StepAfter at (expression_tree operand) operator)
+        }
     {
         Ok(Expression::StepAfter {
             at,
@@ -233,7 +248,10 @@ impl Expression {
         operator: StepOperator,
         operand: Expression,
     ) -> Result<Expression, AllocError>
-        ensures { IfOk result (λ e. expression_tree e ≡ ExpressionTree.StepBefore at operator (expression_tree operand)) }
+        ensures {
+            IfOk result (λ e. expression_tree e
+                ≡ ExpressionTree.StepBefore at operator (expression_tree operand))
+        }
     {
         Ok(Expression::StepBefore {
             at,
@@ -249,7 +267,10 @@ impl Expression {
         operator: UnaryOperator,
         operand: Expression,
     ) -> Result<Expression, AllocError>
-        ensures { IfOk result (λ e. expression_tree e ≡ ExpressionTree.Unary at operator (expression_tree operand)) }
+        ensures {
+            IfOk result (λ e. expression_tree e
+                ≡ ExpressionTree.Unary at operator (expression_tree operand))
+        }
     {
         Ok(Expression::Unary {
             at,
@@ -264,7 +285,10 @@ impl Expression {
         at: At,
         operand: Expression,
     ) -> Result<Expression, AllocError>
-        ensures { IfOk result (λ e. expression_tree e ≡ ExpressionTree.SizeofExpression at (expression_tree operand)) }
+        ensures {
+            IfOk result (λ e. expression_tree e
+                ≡ ExpressionTree.SizeofExpression at (expression_tree operand))
+        }
     {
         Ok(Expression::SizeofExpression {
             at,
@@ -279,7 +303,10 @@ impl Expression {
         type_name: TypeName,
         operand: Expression,
     ) -> Result<Expression, AllocError>
-        ensures { IfOk result (λ e. expression_tree e ≡ ExpressionTree.Cast at (type_name_tree type_name) (expression_tree operand)) }
+        ensures {
+            IfOk result (λ e. expression_tree e
+                ≡ ExpressionTree.Cast at (type_name_tree type_name) (expression_tree operand))
+        }
     {
         Ok(Expression::Cast {
             at,
@@ -296,13 +323,17 @@ impl Expression {
         operator: BinaryOperator,
         right: Expression,
     ) -> Result<Expression, AllocError>
-        ensures { IfOk result (λ e. expression_tree e ≡ ExpressionTree.Binary at (expression_tree left) operator (expression_tree right)) }
+        ensures {
+            IfOk result (λ e. expression_tree e
+                ≡ ExpressionTree.Binary at (expression_tree left) operator (expression_tree right))
+        }
     {
+        let (left, right) = boxed_pair(alloc, left, right)?;
         Ok(Expression::Binary {
             at,
-            left: Box::new(alloc, left)?,
+            left,
             operator,
-            right: Box::new(alloc, right)?,
+            right,
         })
     }
 
@@ -314,13 +345,17 @@ impl Expression {
         then: Expression,
         otherwise: Expression,
     ) -> Result<Expression, AllocError>
-        ensures { IfOk result (λ e. expression_tree e ≡ ExpressionTree.Conditional at (expression_tree condition) (expression_tree then) (expression_tree otherwise)) }
+        ensures {
+            IfOk result (λ e. expression_tree e
+                ≡ ExpressionTree.Conditional at (expression_tree condition) (expression_tree then) (expression_tree otherwise))
+        }
     {
+        let (then, otherwise) = boxed_pair(alloc, then, otherwise)?;
         Ok(Expression::Conditional {
             at,
             condition: Box::new(alloc, condition)?,
-            then: Box::new(alloc, then)?,
-            otherwise: Box::new(alloc, otherwise)?,
+            then,
+            otherwise,
         })
     }
 
@@ -332,13 +367,17 @@ impl Expression {
         operator: AssignOperator,
         right: Expression,
     ) -> Result<Expression, AllocError>
-        ensures { IfOk result (λ e. expression_tree e ≡ ExpressionTree.Assign at (expression_tree left) operator (expression_tree right)) }
+        ensures {
+            IfOk result (λ e. expression_tree e
+                ≡ ExpressionTree.Assign at (expression_tree left) operator (expression_tree right))
+        }
     {
+        let (left, right) = boxed_pair(alloc, left, right)?;
         Ok(Expression::Assign {
             at,
-            left: Box::new(alloc, left)?,
+            left,
             operator,
-            right: Box::new(alloc, right)?,
+            right,
         })
     }
 
@@ -349,13 +388,13 @@ impl Expression {
         left: Expression,
         right: Expression,
     ) -> Result<Expression, AllocError>
-        ensures { IfOk result (λ e. expression_tree e ≡ ExpressionTree.Comma at (expression_tree left) (expression_tree right)) }
+        ensures {
+            IfOk result (λ e. expression_tree e
+                ≡ ExpressionTree.Comma at (expression_tree left) (expression_tree right))
+        }
     {
-        Ok(Expression::Comma {
-            at,
-            left: Box::new(alloc, left)?,
-            right: Box::new(alloc, right)?,
-        })
+        let (left, right) = boxed_pair(alloc, left, right)?;
+        Ok(Expression::Comma { at, left, right })
     }
 
     /// Where a call of this stands, whose bracket is at `from`: at the called name, else at the bracket.
@@ -376,6 +415,20 @@ impl Expression {
             Expression::Comma { .. } => from,
         }
     }
+}
+
+/// Two expressions, each in memory of its own.
+fn boxed_pair(
+    alloc: Global,
+    left: Expression,
+    right: Expression,
+) -> Result<(Box<Expression>, Box<Expression>), AllocError>
+    ensures left { IfOk result (λ pair. pair.0.value ≡ left) }
+    ensures right { IfOk result (λ pair. pair.1.value ≡ right) }
+{
+    let left = Box::new(alloc, left)?;
+    let right = Box::new(alloc, right)?;
+    Ok((left, right))
 }
 
 /// A type without an object, as in a cast or after `sizeof` (C11 6.7.7).
@@ -416,7 +469,10 @@ impl TypeDeclarator {
         inner: TypeDeclarator,
         sizes: Vec<Expression>,
     ) -> Result<TypeDeclarator, AllocError>
-        ensures { IfOk result (λ t. type_declarator_tree t ≡ TypeDeclaratorTree.Nested at stars (type_declarator_tree inner) (expression_trees sizes.items)) }
+        ensures {
+            IfOk result (λ t. type_declarator_tree t
+                ≡ TypeDeclaratorTree.Nested at stars (type_declarator_tree inner) (expression_trees sizes.items))
+        }
     {
         Ok(TypeDeclarator::Nested {
             at,

@@ -1,8 +1,5 @@
 //! Statements and blocks.
 ghost use Rattle.std.specs.Prelude.{◌≡◌, IfOk};
-ghost use Rattle.std.specs.Option.{option_map};
-ghost use Rattle.c_tree.specs.Syntax.{StatementTree};
-ghost use Rattle.c_tree.specs.SyntaxViews.{expression_tree, for_start_tree, statement_tree};
 
 use crate::place::At;
 use crate::syntax::declarations::Declaration;
@@ -66,95 +63,12 @@ pub enum Statement {
     },
 }
 
-#[tactic(auto, using(crate::proofs::SyntaxViews::statement_views))]
 impl Statement {
-    /// `if ( condition ) then`
-    pub fn only_if(
-        alloc: Global,
-        at: At,
-        condition: Expression,
-        then: Statement,
-    ) -> Result<Statement, AllocError>
-        ensures { IfOk result (λ s. statement_tree s ≡ StatementTree.If at (expression_tree condition) (statement_tree then)) }
+    /// The statement in memory of its own, as a part of another statement.
+    pub fn boxed(self, alloc: Global) -> Result<Box<Statement>, AllocError>
+        ensures { IfOk result (λ statement. statement.value ≡ self) }
     {
-        Ok(Statement::If {
-            at,
-            condition,
-            then: Box::new(alloc, then)?,
-            otherwise: None,
-        })
-    }
-
-    /// `if ( condition ) then else otherwise`
-    pub fn if_else(
-        alloc: Global,
-        at: At,
-        condition: Expression,
-        then: Statement,
-        otherwise: Statement,
-    ) -> Result<Statement, AllocError>
-        ensures { IfOk result (λ s. statement_tree s ≡ StatementTree.IfElse at (expression_tree condition) (statement_tree then) (statement_tree otherwise)) }
-    {
-        let then = Box::new(alloc, then)?;
-        let otherwise = Box::new(alloc, otherwise)?;
-        Ok(Statement::If {
-            at,
-            condition,
-            then,
-            otherwise: Some(otherwise),
-        })
-    }
-
-    /// `while ( condition ) body`
-    pub fn repeat_while(
-        alloc: Global,
-        at: At,
-        condition: Expression,
-        body: Statement,
-    ) -> Result<Statement, AllocError>
-        ensures { IfOk result (λ s. statement_tree s ≡ StatementTree.While at (expression_tree condition) (statement_tree body)) }
-    {
-        Ok(Statement::While {
-            at,
-            condition,
-            body: Box::new(alloc, body)?,
-        })
-    }
-
-    /// `do body while ( condition ) ;`
-    pub fn do_while(
-        alloc: Global,
-        at: At,
-        body: Statement,
-        condition: Expression,
-    ) -> Result<Statement, AllocError>
-        ensures { IfOk result (λ s. statement_tree s ≡ StatementTree.DoWhile at (statement_tree body) (expression_tree condition)) }
-    {
-        Ok(Statement::DoWhile {
-            at,
-            body: Box::new(alloc, body)?,
-            condition,
-        })
-    }
-
-    /// `for ( start condition ; step ) body`
-    pub fn repeat_for(
-        alloc: Global,
-        at: At,
-        start: ForStart,
-        condition: Option<Expression>,
-        step: Option<Expression>,
-        body: Statement,
-    ) -> Result<Statement, AllocError>
-        ensures { IfOk result (λ s. statement_tree s ≡ StatementTree.For at (for_start_tree start) (option_map expression_tree condition) (option_map expression_tree step) (statement_tree body)) }
-    {
-        Ok(Statement::For {
-            at,
-            start,
-            condition,
-            step,
-            body: Box::new(alloc, body)?,
-        })
+        Ok(Box::new(alloc, self)?)
     }
 }
 
