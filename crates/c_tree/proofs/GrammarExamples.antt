@@ -1,20 +1,18 @@
 -- Derivations of small texts, and why some have none.
-use Rattle.std.proofs.Common.{◌≡◌, ℕ, zero, suc, ◌≤◌, ◌<◌, ◌+◌, Bool, true, false, List, [], ◌∷◌, ◌++◌, refl, sym, ◌∙◌, ap, lit≤, arith, ◌⊎◌, inl, inr}
-use Rattle.std.specs.Prelude.{Option, Some, None}
+use Rattle.std.proofs.Common.{◌≡◌, ℕ, zero, suc, ◌≤◌, Bool, true, false, List, [], ◌∷◌, ◌++◌, refl, lit≤, arith, ◌⊎◌, inl, inr}
 use Rattle.c_tree.specs.declared.place.At.{At}
-use Rattle.c_tree.specs.declared.words.Punctuator.{Punctuator}
 use Rattle.c_tree.specs.declared.words.Punctuator.TheVariants as m
 use Rattle.c_tree.specs.declared.words.Reserved.TheVariants as w
 use Rattle.c_tree.specs.declared.syntax.specifiers.Specifier.{Specifier}
 use Rattle.c_tree.specs.Tokens.{Token, Placed}
-use Rattle.c_tree.specs.Syntax.{ExpressionTree, ExpressionTrees, TypeNameTree, TypeDeclaratorTree, StatementTree, BlockTree, HeadTree, ExternalTree, UnitTree}
+use Rattle.c_tree.specs.Syntax.{ExpressionTree, ExpressionTrees, TypeNameTree, TypeDeclaratorTree, StatementTree, HeadTree, ExternalTree, UnitTree}
 use Rattle.c_tree.specs.GrammarLimits.{Limits, within_limits, without_limits}
-use Rattle.c_tree.specs.GrammarTokens.{mark, word, identifier, Optional, Many, Commas}
+use Rattle.c_tree.specs.GrammarTokens.{word, identifier, Optional, Many, Commas}
 use Rattle.c_tree.specs.GrammarExpressions.{IsSpecifier, AreStars, IsExpression, IsAssignment, IsConditional, IsBinary, IsCast, IsUnary, IsPostfix, IsPrimary, AreArguments, AreListed, IsTypeName, IsTypeDeclarator, AreSizes}
 use Rattle.c_tree.specs.GrammarDeclarations.{IsArray, IsParameterDeclarator, IsParameter, AreParameters, IsSuffix, IsDeclarator, IsInitializer, AreParts, IsInitDeclarator, IsDeclaration, IsMember, IsStructDefinition}
 use Rattle.c_tree.specs.GrammarStatements.{IsForStart, IsStatement, IsBlock, AreItems, IsItem}
 use Rattle.c_tree.specs.Grammar.{IsHead, IsExternal, Derives}
-use Rattle.c_tree.specs.GrammarExamples.{at, placed, name, ExpressionsDerive, StatementsDerive, UnitsDerive, NothingDerives, HeightsAre, brackets_text, brackets_tree}
+use Rattle.c_tree.specs.GrammarExamples.{at, placed, ExpressionsDerive, StatementsDerive, UnitsDerive, NothingDerives, HeightsAre, brackets_text, brackets_tree}
 
 -- what stands for itself at each level of the chain
 module _ (limits : Limits) where

@@ -25,7 +25,6 @@ use Rattle.c_tree.specs.declared.syntax.statements.ForStart.{ForStart}
 use Rattle.c_tree.specs.declared.syntax.statements.Statement.{Statement, the_lemmas as statement_lemmas}
 use Rattle.c_tree.specs.declared.syntax.statements.Statement.TheVariants as s
 use Rattle.c_tree.specs.declared.syntax.statements.Block.{Block, out-Block}
-use Rattle.c_tree.specs.declared.syntax.statements.BlockItem.{BlockItem}
 use Rattle.c_tree.specs.declared.syntax.statements.BlockItem.TheVariants as b
 use Rattle.c_tree.specs.Syntax.{ExpressionTree, TypeNameTree, TypeDeclaratorTree, ParameterDeclaratorTree, DeclaratorTree, InitializerTree, StatementTree, BlockTree, BlockItemTree}
 use Rattle.c_tree.specs.SyntaxViews.{expression_tree, expression_trees, type_name_tree, type_declarator_tree, array_tree, parameter_declarator_tree, suffix_tree, declarator_tree, initializer_tree, initializer_trees, declaration_tree, for_start_tree, statement_tree, block_tree, block_item_tree, block_item_trees}

@@ -12,7 +12,7 @@ use Rattle.c_tree.specs.Tokens.{Token, Placed}
 use Rattle.c_tree.specs.Syntax.{ExpressionTree, ExpressionTrees, TypeNameTree, TypeDeclaratorTree, ParameterDeclaratorTree, ParametersTree, SuffixTree, DeclaratorTree, InitializerTree, InitializerTrees, ForStartTree, StatementTree, BlockTree, BlockItemTree, BlockItemTrees, HeadTree, ExternalTree, UnitTree}
 use Rattle.c_tree.specs.SyntaxHeights.{height}
 use Rattle.c_tree.specs.GrammarLimits.{within_limits, without_limits}
-use Rattle.c_tree.specs.GrammarTokens.{mark, word, identifier}
+use Rattle.c_tree.specs.GrammarTokens.{mark, identifier}
 use Rattle.c_tree.specs.GrammarExpressions.{IsExpression}
 use Rattle.c_tree.specs.GrammarDeclarations.{IsDeclaration}
 use Rattle.c_tree.specs.GrammarStatements.{IsStatement}

@@ -1,8 +1,7 @@
 -- What the rules of the grammar are made of: tokens, and the braces, square brackets and commas of its notation.
-use Rattle.std.specs.Prelude.{◌≡◌, ℕ, Bool, true, false, List, [], ◌∷◌, ◌++◌, Option, Some, None}
+use Rattle.std.specs.Prelude.{ℕ, List, [], ◌∷◌, ◌++◌, Option, Some, None}
 use Rattle.c_tree.specs.declared.place.At.{At}
 use Rattle.c_tree.specs.declared.words.Reserved.{Reserved}
-use Rattle.c_tree.specs.declared.words.Reserved.TheVariants as w
 use Rattle.c_tree.specs.declared.words.Punctuator.{Punctuator}
 use Rattle.c_tree.specs.declared.words.Punctuator.TheVariants as m
 use Rattle.c_tree.specs.declared.operators.UnaryOperator.{UnaryOperator}

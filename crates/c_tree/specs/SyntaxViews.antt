@@ -1,5 +1,5 @@
 -- What the program's syntax trees stand for.
-use Rattle.std.specs.Prelude.{ℕ, List, [], ◌∷◌, map, Option, Some, None}
+use Rattle.std.specs.Prelude.{List, [], ◌∷◌, map, Some, None}
 use Rattle.std.specs.Option.{option_map}
 use Rattle.c_tree.specs.declared.syntax.expressions.Expression.{Expression, fold-Expression}
 use Rattle.c_tree.specs.declared.syntax.expressions.TypeName.{TypeName, fold-TypeName}

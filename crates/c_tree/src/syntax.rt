@@ -12,10 +12,9 @@ pub mod expressions;
 pub mod grammar;
 pub mod specifiers;
 pub mod statements;
-pub mod units;
-
 #[cfg(test)]
 mod tests;
+pub mod units;
 
 pub use declarations::{
     Declaration, InitDeclarator, Initializer, MemberDeclaration, StructDefinition,

@@ -50,10 +50,8 @@ impl ParameterDeclarator {
         inner: ParameterDeclarator,
         arrays: Vec<Array>,
     ) -> Result<ParameterDeclarator, AllocError>
-        ensures {
-            IfOk result (λ t. parameter_declarator_tree t
-                ≡ ParameterDeclaratorTree.Nested (parameter_declarator_at (parameter_declarator_tree inner)) stars (parameter_declarator_tree inner) (map array_tree arrays.items))
-        }
+        ensures { IfOk result (λ t. parameter_declarator_tree t
+            ≡ ParameterDeclaratorTree.Nested (parameter_declarator_at (parameter_declarator_tree inner)) stars (parameter_declarator_tree inner) (map array_tree arrays.items)) }
     {
         let at = inner.at();
         Ok(ParameterDeclarator::Nested {
@@ -133,10 +131,8 @@ impl Declarator {
         inner: Declarator,
         suffixes: Vec<Suffix>,
     ) -> Result<Declarator, AllocError>
-        ensures {
-            IfOk result (λ t. declarator_tree t
-                ≡ DeclaratorTree.Nested (declarator_at (declarator_tree inner)) stars (declarator_tree inner) (map suffix_tree suffixes.items))
-        }
+        ensures { IfOk result (λ t. declarator_tree t
+            ≡ DeclaratorTree.Nested (declarator_at (declarator_tree inner)) stars (declarator_tree inner) (map suffix_tree suffixes.items)) }
     {
         let at = inner.at();
         Ok(Declarator::Nested {

@@ -138,10 +138,8 @@ pub enum Expression {
 impl Expression {
     /// `( inner )`
     pub fn bracketed(alloc: Global, at: At, inner: Expression) -> Result<Expression, AllocError>
-        ensures {
-            IfOk result (λ e. expression_tree e
-                ≡ ExpressionTree.Bracketed at (expression_tree inner))
-        }
+        ensures { IfOk result (λ e. expression_tree e
+            ≡ ExpressionTree.Bracketed at (expression_tree inner)) }
     {
         Ok(Expression::Bracketed {
             at,
@@ -156,10 +154,8 @@ impl Expression {
         array: Expression,
         index: Expression,
     ) -> Result<Expression, AllocError>
-        ensures {
-            IfOk result (λ e. expression_tree e
-                ≡ ExpressionTree.Index at (expression_tree array) (expression_tree index))
-        }
+        ensures { IfOk result (λ e. expression_tree e
+            ≡ ExpressionTree.Index at (expression_tree array) (expression_tree index)) }
     {
         let (array, index) = boxed_pair(alloc, array, index)?;
         Ok(Expression::Index { at, array, index })
@@ -172,10 +168,8 @@ impl Expression {
         called: Expression,
         arguments: Vec<Expression>,
     ) -> Result<Expression, AllocError>
-        ensures {
-            IfOk result (λ e. expression_tree e
-                ≡ ExpressionTree.Call at (expression_tree called) (expression_trees arguments.items))
-        }
+        ensures { IfOk result (λ e. expression_tree e
+            ≡ ExpressionTree.Call at (expression_tree called) (expression_trees arguments.items)) }
     {
         Ok(Expression::Call {
             at,
@@ -191,10 +185,8 @@ impl Expression {
         object: Expression,
         member: Name,
     ) -> Result<Expression, AllocError>
-        ensures {
-            IfOk result (λ e. expression_tree e
-                ≡ ExpressionTree.Member at (expression_tree object) member)
-        }
+        ensures { IfOk result (λ e. expression_tree e
+            ≡ ExpressionTree.Member at (expression_tree object) member) }
     {
         Ok(Expression::Member {
             at,
@@ -210,10 +202,8 @@ impl Expression {
         pointer: Expression,
         member: Name,
     ) -> Result<Expression, AllocError>
-        ensures {
-            IfOk result (λ e. expression_tree e
-                ≡ ExpressionTree.Arrow at (expression_tree pointer) member)
-        }
+        ensures { IfOk result (λ e. expression_tree e
+            ≡ ExpressionTree.Arrow at (expression_tree pointer) member) }
     {
         Ok(Expression::Arrow {
             at,
@@ -229,10 +219,8 @@ impl Expression {
         operand: Expression,
         operator: StepOperator,
     ) -> Result<Expression, AllocError>
-        ensures {
-            IfOk result (λ e. expression_tree e
-                ≡ ExpressionTree.StepAfter at (expression_tree operand) operator)
-        }
+        ensures { IfOk result (λ e. expression_tree e
+            ≡ ExpressionTree.StepAfter at (expression_tree operand) operator) }
     {
         Ok(Expression::StepAfter {
             at,
@@ -248,10 +236,8 @@ impl Expression {
         operator: StepOperator,
         operand: Expression,
     ) -> Result<Expression, AllocError>
-        ensures {
-            IfOk result (λ e. expression_tree e
-                ≡ ExpressionTree.StepBefore at operator (expression_tree operand))
-        }
+        ensures { IfOk result (λ e. expression_tree e
+            ≡ ExpressionTree.StepBefore at operator (expression_tree operand)) }
     {
         Ok(Expression::StepBefore {
             at,
@@ -267,10 +253,8 @@ impl Expression {
         operator: UnaryOperator,
         operand: Expression,
     ) -> Result<Expression, AllocError>
-        ensures {
-            IfOk result (λ e. expression_tree e
-                ≡ ExpressionTree.Unary at operator (expression_tree operand))
-        }
+        ensures { IfOk result (λ e. expression_tree e
+            ≡ ExpressionTree.Unary at operator (expression_tree operand)) }
     {
         Ok(Expression::Unary {
             at,
@@ -285,10 +269,8 @@ impl Expression {
         at: At,
         operand: Expression,
     ) -> Result<Expression, AllocError>
-        ensures {
-            IfOk result (λ e. expression_tree e
-                ≡ ExpressionTree.SizeofExpression at (expression_tree operand))
-        }
+        ensures { IfOk result (λ e. expression_tree e
+            ≡ ExpressionTree.SizeofExpression at (expression_tree operand)) }
     {
         Ok(Expression::SizeofExpression {
             at,
@@ -303,10 +285,8 @@ impl Expression {
         type_name: TypeName,
         operand: Expression,
     ) -> Result<Expression, AllocError>
-        ensures {
-            IfOk result (λ e. expression_tree e
-                ≡ ExpressionTree.Cast at (type_name_tree type_name) (expression_tree operand))
-        }
+        ensures { IfOk result (λ e. expression_tree e
+            ≡ ExpressionTree.Cast at (type_name_tree type_name) (expression_tree operand)) }
     {
         Ok(Expression::Cast {
             at,
@@ -323,10 +303,8 @@ impl Expression {
         operator: BinaryOperator,
         right: Expression,
     ) -> Result<Expression, AllocError>
-        ensures {
-            IfOk result (λ e. expression_tree e
-                ≡ ExpressionTree.Binary at (expression_tree left) operator (expression_tree right))
-        }
+        ensures { IfOk result (λ e. expression_tree e
+            ≡ ExpressionTree.Binary at (expression_tree left) operator (expression_tree right)) }
     {
         let (left, right) = boxed_pair(alloc, left, right)?;
         Ok(Expression::Binary {
@@ -345,10 +323,8 @@ impl Expression {
         then: Expression,
         otherwise: Expression,
     ) -> Result<Expression, AllocError>
-        ensures {
-            IfOk result (λ e. expression_tree e
-                ≡ ExpressionTree.Conditional at (expression_tree condition) (expression_tree then) (expression_tree otherwise))
-        }
+        ensures { IfOk result (λ e. expression_tree e
+            ≡ ExpressionTree.Conditional at (expression_tree condition) (expression_tree then) (expression_tree otherwise)) }
     {
         let (then, otherwise) = boxed_pair(alloc, then, otherwise)?;
         Ok(Expression::Conditional {
@@ -367,10 +343,8 @@ impl Expression {
         operator: AssignOperator,
         right: Expression,
     ) -> Result<Expression, AllocError>
-        ensures {
-            IfOk result (λ e. expression_tree e
-                ≡ ExpressionTree.Assign at (expression_tree left) operator (expression_tree right))
-        }
+        ensures { IfOk result (λ e. expression_tree e
+            ≡ ExpressionTree.Assign at (expression_tree left) operator (expression_tree right)) }
     {
         let (left, right) = boxed_pair(alloc, left, right)?;
         Ok(Expression::Assign {
@@ -388,10 +362,8 @@ impl Expression {
         left: Expression,
         right: Expression,
     ) -> Result<Expression, AllocError>
-        ensures {
-            IfOk result (λ e. expression_tree e
-                ≡ ExpressionTree.Comma at (expression_tree left) (expression_tree right))
-        }
+        ensures { IfOk result (λ e. expression_tree e
+            ≡ ExpressionTree.Comma at (expression_tree left) (expression_tree right)) }
     {
         let (left, right) = boxed_pair(alloc, left, right)?;
         Ok(Expression::Comma { at, left, right })
@@ -469,10 +441,8 @@ impl TypeDeclarator {
         inner: TypeDeclarator,
         sizes: Vec<Expression>,
     ) -> Result<TypeDeclarator, AllocError>
-        ensures {
-            IfOk result (λ t. type_declarator_tree t
-                ≡ TypeDeclaratorTree.Nested at stars (type_declarator_tree inner) (expression_trees sizes.items))
-        }
+        ensures { IfOk result (λ t. type_declarator_tree t
+            ≡ TypeDeclaratorTree.Nested at stars (type_declarator_tree inner) (expression_trees sizes.items)) }
     {
         Ok(TypeDeclarator::Nested {
             at,
