@@ -2,3 +2,5 @@ pub mod TypesCases
 pub mod TypedLemmas
 pub mod TypedPrograms
 pub mod TypedViewed
+pub mod GrammarExamples
+pub mod SyntaxViews

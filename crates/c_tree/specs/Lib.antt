@@ -1,3 +1,13 @@
+pub mod Grammar
+pub mod GrammarDeclarations
+pub mod GrammarExamples
+pub mod GrammarExpressions
+pub mod GrammarLimits
+pub mod GrammarStatements
+pub mod GrammarTokens
+pub mod Syntax
+pub mod SyntaxHeights
+pub mod SyntaxViews
 pub mod Tokens
 pub mod Types
 pub mod TypesViewed

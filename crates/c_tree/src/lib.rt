@@ -3,6 +3,7 @@
 
 pub mod operators;
 pub mod place;
+pub mod syntax;
 pub mod typed;
 pub mod typed_expr;
 pub mod typed_laws;

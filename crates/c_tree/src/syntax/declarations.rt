@@ -1,0 +1,48 @@
+//! Declarations, initialisers and the definitions of structs.
+
+use crate::place::{At, Name};
+use crate::syntax::declarators::Declarator;
+use crate::syntax::expressions::Expression;
+use crate::syntax::specifiers::Specifier;
+
+/// An initialiser (C11 6.7.9).
+#[derive(Debug, Drop)]
+pub enum Initializer {
+    /// One expression.
+    Expression(Expression),
+    /// Parts in braces, one or more.
+    Braced { at: At, parts: Vec<Initializer> },
+}
+
+/// A declarator with or without its initialiser (C11 6.7). It stands at its `=`, or at the declared name where there is
+/// none.
+#[derive(Debug, Drop)]
+pub struct InitDeclarator {
+    pub at: At,
+    pub declarator: Declarator,
+    pub initializer: Option<Initializer>,
+}
+
+/// A declaration (C11 6.7), which may declare nothing.
+#[derive(Debug, Drop)]
+pub struct Declaration {
+    pub at: At,
+    pub specifier: Specifier,
+    pub declarators: Vec<InitDeclarator>,
+}
+
+/// Members of one specifier (C11 6.7.2.1), one or more.
+#[derive(Debug, Drop)]
+pub struct MemberDeclaration {
+    pub at: At,
+    pub specifier: Specifier,
+    pub declarators: Vec<Declarator>,
+}
+
+/// `struct tag { members }` (C11 6.7.2.1), with one member declaration or more. It stands at the tag.
+#[derive(Debug, Drop)]
+pub struct StructDefinition {
+    pub at: At,
+    pub tag: Name,
+    pub members: Vec<MemberDeclaration>,
+}

@@ -1,0 +1,155 @@
+//! Declarators, and the parameters of functions.
+ghost use Rattle.std.specs.Prelude.{◌≡◌, map, IfOk};
+ghost use Rattle.c_tree.specs.Syntax.{ParameterDeclaratorTree, DeclaratorTree};
+ghost use Rattle.c_tree.specs.SyntaxViews.{array_tree, parameter_declarator_tree, suffix_tree, declarator_tree};
+ghost use Rattle.c_tree.specs.GrammarDeclarations.{declarator_at, parameter_declarator_at};
+
+use crate::place::{At, Name};
+use crate::syntax::expressions::Expression;
+use crate::syntax::specifiers::Specifier;
+use std::alloc::{AllocError, Global};
+
+/// `[ size ]` (C11 6.7.6.2); no size, where the brackets are empty.
+#[derive(Debug, Drop)]
+pub struct Array {
+    pub at: At,
+    pub size: Option<Expression>,
+}
+
+/// What a parameter makes of its specifier's type, with a name or without one (C11 6.7.6 and 6.7.7).
+#[derive(Debug, Drop)]
+pub enum ParameterDeclarator {
+    /// Pointers, then arrays.
+    Unnamed {
+        at: At,
+        stars: u32,
+        arrays: Vec<Array>,
+    },
+    /// Pointers, then the name, then arrays.
+    Named {
+        at: At,
+        stars: u32,
+        name: Name,
+        arrays: Vec<Array>,
+    },
+    /// Pointers, then brackets, then arrays.
+    Nested {
+        at: At,
+        stars: u32,
+        inner: Box<ParameterDeclarator>,
+        arrays: Vec<Array>,
+    },
+}
+
+#[tactic(auto, using(crate::proofs::SyntaxViews::declaration_views))]
+impl ParameterDeclarator {
+    /// Pointers, then brackets, then arrays. It stands where what is in the brackets stands.
+    pub fn nested(
+        alloc: Global,
+        stars: u32,
+        inner: ParameterDeclarator,
+        arrays: Vec<Array>,
+    ) -> Result<ParameterDeclarator, AllocError>
+        ensures { IfOk result (λ t. parameter_declarator_tree t
+            ≡ ParameterDeclaratorTree.Nested (parameter_declarator_at (parameter_declarator_tree inner)) stars (parameter_declarator_tree inner) (map array_tree arrays.items)) }
+    {
+        let at = inner.at();
+        Ok(ParameterDeclarator::Nested {
+            at,
+            stars,
+            inner: Box::new(alloc, inner)?,
+            arrays,
+        })
+    }
+
+    /// Where it stands: at its name, or at the specifier where there is none.
+    pub fn at(&self) -> At
+        ensures { result ≡ parameter_declarator_at (parameter_declarator_tree self.now) }
+    {
+        match self {
+            ParameterDeclarator::Unnamed { at, .. } => *at,
+            ParameterDeclarator::Named { at, .. } => *at,
+            ParameterDeclarator::Nested { at, .. } => *at,
+        }
+    }
+}
+
+/// A parameter. It stands at its specifier.
+#[derive(Debug, Drop)]
+pub struct Parameter {
+    pub at: At,
+    pub specifier: Specifier,
+    pub declarator: ParameterDeclarator,
+}
+
+/// What stands between a function declarator's brackets (C11 6.7.6.3).
+#[derive(Debug, Drop)]
+pub enum Parameters {
+    /// `void` alone: no parameters
+    Void { at: At },
+    /// One parameter or more.
+    Listed { at: At, parameters: Vec<Parameter> },
+}
+
+/// What follows the name or the brackets of a declarator.
+#[derive(Debug, Drop)]
+pub enum Suffix {
+    /// `[ size ]`
+    Array(Array),
+    /// `( parameters )`, or `( )`
+    Function {
+        at: At,
+        parameters: Option<Parameters>,
+    },
+}
+
+/// A declared name, and what its declaration makes of the specifier's type (C11 6.7.6).
+#[derive(Debug, Drop)]
+pub enum Declarator {
+    /// Pointers, then the name, then suffixes.
+    Named {
+        at: At,
+        stars: u32,
+        name: Name,
+        suffixes: Vec<Suffix>,
+    },
+    /// Pointers, then brackets, then suffixes.
+    Nested {
+        at: At,
+        stars: u32,
+        inner: Box<Declarator>,
+        suffixes: Vec<Suffix>,
+    },
+}
+
+#[tactic(auto, using(crate::proofs::SyntaxViews::declaration_views))]
+impl Declarator {
+    /// Pointers, then brackets, then suffixes. It stands at the name in the brackets.
+    pub fn nested(
+        alloc: Global,
+        stars: u32,
+        inner: Declarator,
+        suffixes: Vec<Suffix>,
+    ) -> Result<Declarator, AllocError>
+        ensures { IfOk result (λ t. declarator_tree t
+            ≡ DeclaratorTree.Nested (declarator_at (declarator_tree inner)) stars (declarator_tree inner) (map suffix_tree suffixes.items)) }
+    {
+        let at = inner.at();
+        Ok(Declarator::Nested {
+            at,
+            stars,
+            inner: Box::new(alloc, inner)?,
+            suffixes,
+        })
+    }
+
+    /// Where it stands: at the declared name.
+    pub fn at(&self) -> At
+        ensures { result ≡ declarator_at (declarator_tree self.now) }
+    {
+        match self {
+            Declarator::Named { at, .. } => *at,
+            Declarator::Nested { at, .. } => *at,
+        }
+    }
+}

@@ -1,0 +1,47 @@
+//! The words that name a type.
+ghost use Rattle.std.specs.Prelude.{◌≡◌};
+ghost use Rattle.c_tree.specs.GrammarExpressions.{specifier_at};
+
+use crate::place::{At, Name};
+
+/// The words that name a type (C11 6.7.2).
+#[derive(Debug, Drop)]
+pub enum Specifier {
+    /// `void`
+    Void { at: At },
+    /// `char`
+    Char { at: At },
+    /// `int`
+    Int { at: At },
+    /// `signed`
+    Signed { at: At },
+    /// `signed int`
+    SignedInt { at: At },
+    /// `unsigned`
+    Unsigned { at: At },
+    /// `unsigned int`
+    UnsignedInt { at: At },
+    /// `unsigned char`
+    UnsignedChar { at: At },
+    /// `struct tag`
+    Struct { at: At, tag: Name },
+}
+
+impl Specifier {
+    /// Where it stands: at its first word.
+    pub fn at(&self) -> At
+        ensures { result ≡ specifier_at self.now }
+    {
+        match self {
+            Specifier::Void { at } => *at,
+            Specifier::Char { at } => *at,
+            Specifier::Int { at } => *at,
+            Specifier::Signed { at } => *at,
+            Specifier::SignedInt { at } => *at,
+            Specifier::Unsigned { at } => *at,
+            Specifier::UnsignedInt { at } => *at,
+            Specifier::UnsignedChar { at } => *at,
+            Specifier::Struct { at, .. } => *at,
+        }
+    }
+}

@@ -1,0 +1,98 @@
+//! Statements and blocks.
+ghost use Rattle.std.specs.Prelude.{◌≡◌, IfOk};
+
+use crate::place::At;
+use crate::syntax::declarations::Declaration;
+use crate::syntax::expressions::Expression;
+use std::alloc::{AllocError, Global};
+
+/// A statement (C11 6.8).
+#[cycle(statements)]
+#[derive(Debug, Drop)]
+pub enum Statement {
+    /// A block.
+    Block(Block),
+    /// `;` (6.8.3)
+    Empty {
+        at: At,
+    },
+    /// `value ;` (6.8.3)
+    Expression {
+        at: At,
+        value: Expression,
+    },
+    /// `if ( condition ) then else otherwise`, or without its `else` (6.8.4.1)
+    If {
+        at: At,
+        condition: Expression,
+        then: Box<Statement>,
+        otherwise: Option<Box<Statement>>,
+    },
+    /// `while ( condition ) body` (6.8.5.1)
+    While {
+        at: At,
+        condition: Expression,
+        body: Box<Statement>,
+    },
+    /// `do body while ( condition ) ;` (6.8.5.2)
+    DoWhile {
+        at: At,
+        body: Box<Statement>,
+        condition: Expression,
+    },
+    /// `for ( start condition ; step ) body` (6.8.5.3)
+    For {
+        at: At,
+        start: ForStart,
+        condition: Option<Expression>,
+        step: Option<Expression>,
+        body: Box<Statement>,
+    },
+    /// `break ;` (6.8.6.3)
+    Break {
+        at: At,
+    },
+    /// `continue ;` (6.8.6.2)
+    Continue {
+        at: At,
+    },
+    /// `return value ;`, or without a value (6.8.6.4)
+    Return {
+        at: At,
+        value: Option<Expression>,
+    },
+}
+
+impl Statement {
+    /// The statement in memory of its own, as a part of another statement.
+    pub fn boxed(self, alloc: Global) -> Result<Box<Statement>, AllocError>
+        ensures { IfOk result (λ statement. statement.value ≡ self) }
+    {
+        Ok(Box::new(alloc, self)?)
+    }
+}
+
+/// How a `for` begins.
+#[derive(Debug, Drop)]
+pub enum ForStart {
+    /// A declaration, whose names are known in the whole statement.
+    Declaration(Declaration),
+    /// An expression and its `;`, or the `;` alone.
+    Expression(Option<Expression>),
+}
+
+/// `{ items }` (C11 6.8.2)
+#[cycle(statements)]
+#[derive(Debug, Drop)]
+pub struct Block {
+    pub at: At,
+    pub items: Vec<BlockItem>,
+}
+
+/// What stands in a block.
+#[cycle(statements)]
+#[derive(Debug, Drop)]
+pub enum BlockItem {
+    Declaration(Declaration),
+    Statement(Statement),
+}

@@ -1,0 +1,39 @@
+//! The declarations of a file.
+
+use crate::place::At;
+use crate::syntax::declarations::{InitDeclarator, StructDefinition};
+use crate::syntax::declarators::Declarator;
+use crate::syntax::specifiers::Specifier;
+use crate::syntax::statements::Block;
+
+/// What a declaration of the file begins with.
+#[derive(Debug, Drop)]
+pub enum Head {
+    Specifier(Specifier),
+    Struct(StructDefinition),
+}
+
+/// A declaration at file scope (C11 6.9).
+#[derive(Debug, Drop)]
+pub enum External {
+    /// A declaration, which may declare no name.
+    Declaration {
+        at: At,
+        head: Head,
+        declarators: Vec<InitDeclarator>,
+    },
+    /// A function definition (6.9.1).
+    Function {
+        at: At,
+        head: Head,
+        declarator: Declarator,
+        body: Block,
+    },
+}
+
+/// A whole file (C11 6.9). It stands at its first token; an empty one at token 0 and line 1.
+#[derive(Debug, Drop)]
+pub struct Unit {
+    pub at: At,
+    pub externals: Vec<External>,
+}
