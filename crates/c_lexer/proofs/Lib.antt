@@ -1,0 +1,5 @@
+pub mod RunLemmas
+pub mod TableLemmas
+pub mod NumberLemmas
+pub mod ItemsLemmas
+pub mod QuoteLemmas

@@ -1,0 +1,100 @@
+//! The tokens of a text.
+ghost use Rattle.std.specs.Prelude.{◌≡◌, ◌≤◌, ◌<◌, ◌^◌, List, Result, Ok, length, IfOk, IfErr};
+ghost use Rattle.c_lexer.specs.Text.{HasOneReading, Lexeme, Lexes};
+ghost use Rattle.c_lexer.specs.Views.{lexemes, Answers, IsReading, IsRefusal};
+ghost use Rattle.c_lexer.specs.Gives.{GivesOn};
+ghost use Rattle.c_lexer.specs.Reading as reading;
+
+use crate::bytes::line_feeds;
+use crate::fault::{LexError, PieceError};
+use crate::piece::{Piece, piece_at};
+use crate::token::{Token, Tokens};
+use std::alloc::Global;
+
+/// How many bytes a text may have.
+const MAX_LEN: usize = 1_048_576;
+
+// The piece in front of the text, or the fault there on this line.
+fn piece_on(alloc: Global, text: &[u8], line: u32) -> Result<Piece, LexError>
+    requires { 0 < length text.now }
+    ensures value { GivesOn line result (reading.piece_at text.now) }
+    ensures within { IfOk result (λ p. p.len ≤ length text.now) }
+{
+    match piece_at(alloc, text) {
+        Ok(piece) => Ok(piece),
+        Err(PieceError::Memory) => Err(LexError::Memory),
+        Err(PieceError::Fault(fault)) => Err(fault.on_line(line)),
+    }
+}
+
+// The tokens of a text that is not too long.
+fn read(alloc: Global, text: &[u8]) -> Result<Tokens, LexError>
+    requires { length text.now ≤ 1048576 }
+    ensures { IsReading text.now result }
+{
+    let mut tokens = Tokens::new(alloc);
+    let mut rest = text;
+    let mut line = 1;
+    while !rest.is_empty() {
+        let Piece { token, len } = piece_on(alloc, rest, line)?;
+        if let Some(kind) = token {
+            tokens.push(Token {
+                kind,
+                start: (text.len() - rest.len()) as u32,
+                len: len as u32,
+                line,
+            })?;
+        }
+        line += line_feeds(&rest[..len]) as u32;
+        rest = &rest[len..];
+    }
+    Ok(tokens)
+}
+
+/// The tokens of a text (C11 6.4), or the fault at the first place where no token, blank, comment or directive stands.
+pub fn lex(alloc: Global, text: &[u8]) -> Result<Tokens, LexError>
+    requires { length text.now < 2 ^ 32 }
+    // The tokens are those of the text.
+    ensures tokens { IfOk result (λ tokens. Lexes text.now (Ok (lexemes tokens))) }
+    // A refusal is that of the text, or memory ran out.
+    ensures refusal { IfErr result (IsRefusal text.now) }
+    // What the text reads as is answered, unless memory ran out.
+    ensures exact { (reading : Result (List Lexeme) LexError) → Lexes text.now reading → Answers result reading }
+{
+    if text.len() > MAX_LEN {
+        return Err(LexError::TooLong {
+            length: text.len() as u32,
+        });
+    }
+    read(alloc, text)
+}
+
+/// A text has one reading at most: its tokens, or one refusal.
+pub fn one_reading()
+    ensures { HasOneReading }
+{}
+
+#[cfg(test)]
+mod tests {
+    use super::*;
+    use std::test::Fail;
+
+    #[test]
+    fn counts(rt: HostRuntime) -> Result<(), Fail> {
+        for (text, count) in [
+            (b"int main(void){return 42;}".as_slice(), 10),
+            (b"a>>=b/*\n*/c", 4),
+            (b"0x1e+2", 0),
+            (b"'\\377' '\\xff' \"a\\12\\1234\"", 3),
+        ] {
+            match lex(rt.alloc(), text) {
+                Ok(tokens) => {
+                    println!(rt; "{}", tokens.len())?;
+                    assert_eq!(rt; tokens.len(), count);
+                }
+                Err(e) => println!(rt; "{e}")?,
+            }
+        }
+        Ok(())
+    }
+}

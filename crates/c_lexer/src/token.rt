@@ -1,0 +1,33 @@
+//! Tokens, each with its place in the text.
+use bb_words::list::List;
+use c_tree::place::{Bytes, Name};
+use c_tree::words::{Punctuator, Reserved};
+
+/// A token with its value (C11 6.4).
+#[derive(Debug, Drop)]
+pub enum TokenKind {
+    /// An identifier that is no reserved word.
+    Name(Name),
+    /// An integer constant: its value, and whether its type is unsigned.
+    Number { value: u32, unsigned: bool },
+    /// A character constant's value.
+    Character(u8),
+    /// The bytes of a string literal, without the final zero.
+    Text(Bytes),
+    /// A reserved word.
+    Word(Reserved),
+    /// A punctuator.
+    Mark(Punctuator),
+}
+
+/// A token, where its first byte stands in the text, how many bytes it has, and the line of its first byte, from 1.
+#[derive(Debug, Drop)]
+pub struct Token {
+    pub kind: TokenKind,
+    pub start: u32,
+    pub len: u32,
+    pub line: u32,
+}
+
+/// The tokens of a text, in order.
+pub type Tokens = List<Token>;
