@@ -56,6 +56,7 @@ items_found {X} IsItem step r n bytes h = by_step n bytes (step bytes) refl h
   where
     at_stop : (bytes : List ℕ) → step bytes ≡ None → AreFound IsItem step bytes (items_from step bytes 0)
     at_stop bytes e = rw (items_stop step bytes e) ([], refl, done, e)
+
     at_item : (bytes : List ℕ) (x : X) (k : ℕ) → step bytes ≡ Some (x, k) → AreFound IsItem step (drop k bytes) (items_from step (drop k bytes) 0) → AreFound IsItem step bytes (items_from step bytes 0)
     at_item bytes x k e go =
         let m = r.moves bytes x k e in
@@ -63,6 +64,7 @@ items_found {X} IsItem step r n bytes h = by_step n bytes (step bytes) refl h
         let parts : bytes ≡ (take k bytes ++ go.0) ++ rest = sym (take-append-drop k bytes) ∙ ap (λ t. take k bytes ++ t) go.1 ∙ sym (append_assoc (take k bytes) go.0 rest) in
         let item : IsItem (take k bytes) (go.0 ++ rest) x = subst (λ t. IsItem (take k bytes) t x) go.1 (r.found bytes x k e) in
         rw (items_go step bytes x k e m.0 m.1) (take k bytes ++ go.0, parts, more (take k bytes) go.0 x _ item go.2, go.3)
+
     by_step : (n : ℕ) (bytes : List ℕ) (o : Option (X × ℕ)) → step bytes ≡ o → length bytes ≤ n → AreFound IsItem step bytes (items_from step bytes 0)
     by_step n bytes None e h = at_stop bytes e
     by_step zero bytes (Some item) e h = let m = r.moves bytes item.0 item.1 e in absurd (omega arith)

@@ -30,9 +30,9 @@ value_found limit radix before (d ∷ ds) v lt e =
     by_tests (λ l f. value_found limit radix (radix * before + digit_value d) ds v l f) (is_digit_of radix d) (ltb (radix * before + digit_value d) limit) refl refl e
   where
     by_tests : (radix * before + digit_value d < limit → value_below limit radix (radix * before + digit_value d) ds ≡ Some v → AreDigits radix ds × (v ≡ value_behind radix (radix * before + digit_value d) ds) × (v < limit))
-      → (p q : Bool) → is_digit_of radix d ≡ p → ltb (radix * before + digit_value d) limit ≡ q
-      → cond (p && q) (value_below limit radix (radix * before + digit_value d) ds) None ≡ Some v
-      → AreDigits radix (d ∷ ds) × (v ≡ value_behind radix before (d ∷ ds)) × (v < limit)
+        → (p q : Bool) → is_digit_of radix d ≡ p → ltb (radix * before + digit_value d) limit ≡ q
+        → cond (p && q) (value_below limit radix (radix * before + digit_value d) ds) None ≡ Some v
+        → AreDigits radix (d ∷ ds) × (v ≡ value_behind radix before (d ∷ ds)) × (v < limit)
     by_tests go true true i j f = let r = go (ltb-true _ _ j) f in ((i, r.0), r.1, r.2)
     by_tests go true false i j f = absurd cc
     by_tests go false q i j f = absurd cc
@@ -86,12 +86,14 @@ radix_found (d ∷ ds) r e h = by_test (eqb d 48) refl e
         let digits : AreDigits 8 (x ∷ xs) = subst (λ (p : ℕ × List ℕ). AreDigits p.0 p.1) (sym same) h in
         let is : IsInteger (48 ∷ x ∷ xs) r.0 r.1 = subst (λ (p : ℕ × List ℕ). IsInteger (48 ∷ x ∷ xs) p.0 p.1) same (octal (x ∷ xs) digits) in
         subst (λ z. IsInteger (z ∷ x ∷ xs) r.0 r.1) (sym i) is
+
     by_zero : (xs : List ℕ) → d ≡ 48 → behind_zero xs ≡ Some r → IsInteger (d ∷ xs) r.0 r.1
     by_zero [] i f =
         let same : (8, []) ≡ r = some_is _ _ f in
         let is : IsInteger (48 ∷ []) r.0 r.1 = subst (λ (p : ℕ × List ℕ). IsInteger (48 ∷ []) p.0 p.1) same (octal [] tt) in
         subst (λ z. IsInteger (z ∷ []) r.0 r.1) (sym i) is
     by_zero (x ∷ xs) i f = by_mark x xs i (is_hex_mark x) refl f
+
     by_test : (t : Bool) → eqb d 48 ≡ t → cond t (behind_zero ds) (Some (10, d ∷ ds)) ≡ Some r → IsInteger (d ∷ ds) r.0 r.1
     by_test true i f = by_zero ds (eqb-true d 48 i) f
     by_test false i f =
@@ -163,6 +165,7 @@ int_below radix v h = by_tests (eqb radix 10) refl h
     by_size : radix ≢ 10 → v < 2 ^ 32 → (v < 2 ^ 31) ⊎ (2 ^ 31 ≤ v) → (v < 2 ^ 31) ⊎ ((radix ≢ 10) × (2 ^ 31 ≤ v) × (v < 2 ^ 32))
     by_size n l (inl a) = inl a
     by_size n l (inr b) = inr (n, b, l)
+
     by_tests : (t : Bool) → eqb radix 10 ≡ t → v < cond (t && not false) (2 ^ 31) (2 ^ 32) → (v < 2 ^ 31) ⊎ ((radix ≢ 10) × (2 ^ 31 ≤ v) × (v < 2 ^ 32))
     by_tests true i l = inl l
     by_tests false i l = by_size (eqb-false radix 10 i) l (cases_lt v (2 ^ 31))
@@ -197,6 +200,7 @@ parts s t v u e = by_radix (radix_of (unsuffixed s)) refl e
         let below : v < limit_of t r.0 = subst (λ x. x < limit_of t r.0) v_is p.2 in
         let u_is : (t || leb (2 ^ 31) w) ≡ u = ap (λ (x : ℕ × Bool). x.1) same in
         (unsuffixed s, r, refl, radix_found (unsuffixed s) r i p.0, sym v_is ∙ p.1, below, sym u_is ∙ ap (λ x. t || leb (2 ^ 31) x) v_is)
+
     by_radix : (o : Option (ℕ × List ℕ)) → radix_of (unsuffixed s) ≡ o → constant t o ≡ Some (v, u) → Holds s t v u
     by_radix None i f = absurd cc
     by_radix (Some r) i f = by_value r i (value_below (limit_of t r.0) r.0 0 r.1) refl f
@@ -208,6 +212,7 @@ number_found s v u e = by_suffix (is_suffixed s) refl s refl e
     no_test : (s t : List ℕ) (r : ℕ × List ℕ) → t ≡ s → IsInteger t r.0 r.1 → (v ≡ value_of r.0 r.1) → (u ≡ leb (2 ^ 31) v) → (v < 2 ^ 31) ⊎ ((r.0 ≢ 10) × (2 ^ 31 ≤ v) × (v < 2 ^ 32)) → IsNumber s v u
     no_test s t r i a b d (inl l) = rw (d, lt-leb _ _ l, ← i) (int t r.0 r.1 v a b l)
     no_test s t r i a b d (inr l) = rw (d, le-leb _ _ l.1, ← i) (large t r.0 r.1 v a b l.0 l.1 l.2)
+
     by_list : (s : List ℕ) → is_suffixed s ≡ true → Holds s true v u → IsNumber s v u
     by_list [] i p = absurd (false≢true (sym nil_no_suffix ∙ i))
     by_list (b ∷ bs) i p =
@@ -215,6 +220,7 @@ number_found s v u e = by_suffix (is_suffixed s) refl s refl e
         let whole : p.0 ++ last (b ∷ bs) ∷ [] ≡ b ∷ bs = ap (λ t. t ++ last (b ∷ bs) ∷ []) e ∙ sym (push_last b bs) in
         let below : v < 2 ^ 32 = subst (λ x. v < x) (limit_suffixed p.1.0) p.5 in
         rw (p.6, ← whole) (suffixed p.0 p.1.0 p.1.1 v (last (b ∷ bs)) p.3 p.4 i below)
+
     by_suffix : (t : Bool) → is_suffixed s ≡ t → (x : List ℕ) → x ≡ s → constant t (radix_of (unsuffixed s)) ≡ Some (v, u) → IsNumber s v u
     by_suffix true i x j f = by_list s i (parts s true v u f)
     by_suffix false i x j f =

@@ -33,7 +33,7 @@ pub loop_goes : (quote : ℕ) (whole : List ℕ × List ℕ) (values values' res
 loop_goes quote whole values values' rest rest' v n e h l w a b =
     let go = elements_go quote rest v n e h l in
     let front : values ++ (elements quote rest).0 ≡ values' ++ (elements quote rest').0 =
-        rw (go, a, b) (sym (append_assoc values (v ∷ []) (elements quote (drop n rest)).0)) in
+    rw (go, a, b) (sym (append_assoc values (v ∷ []) (elements quote (drop n rest)).0)) in
     let end : (elements quote rest).1 ≡ (elements quote rest').1 = rw (go, b) refl in
     w ∙ pair_is _ _ _ _ front end
   where
@@ -90,6 +90,7 @@ digits_found radix before count bytes v n e = by_test (eqb count 0) refl e
         let n_is : before + count ≡ n = ap {A = ℕ × ℕ} (λ x. x.1) same in
         let p = value_found 256 radix 0 (take count bytes) w (omega arith) i in
         (grind (arith, nat_tests), sym n_is, p.0, sym w_is ∙ p.1, subst (λ x. x < 256) w_is p.2)
+
     by_test : (t : Bool) → eqb count 0 ≡ t → cond t (Err faults.BadEscape) (element_or_fault (before + count) (value_below 256 radix 0 (take count bytes))) ≡ item (v, n)
         → (0 < count) × (n ≡ before + count) × AreDigits radix (take count bytes) × (v ≡ value_of radix (take count bytes)) × (v < 256)
     by_test true z f = absurd cc
@@ -135,12 +136,14 @@ octal_found bytes v n e =
     short : (k : ℕ) (s rest : List ℕ) → 0 < length s → length s < 3 → AreDigits 8 s → v ≡ value_of 8 s → v < 256 → IsRun (λ _ b. is_digit_of 8 b) 0 s rest → IsEscape s rest v
     short k [] rest h l a x y r = absurd (omega arith)
     short k (d ∷ ds) rest h l a x y r = fewer d ds rest v (omega arith) r x y
+
     long : (s rest : List ℕ) → length s ≡ 3 → AreDigits 8 s → v ≡ value_of 8 s → v < 256 → IsEscape s rest v
     long [] rest l a x y = absurd (omega arith)
     long (a ∷ []) rest l h x y = absurd (omega arith)
     long (a ∷ b ∷ []) rest l h x y = absurd (omega arith)
     long (a ∷ b ∷ c ∷ []) rest l h x y = three a b c rest v h x y
     long (a ∷ b ∷ c ∷ d ∷ s) rest l h x y = absurd (omega arith)
+
     by_count : (k : ℕ) → 0 < k → k ≤ length bytes → k ≤ 3 → AreDigits 8 (take k bytes) → v ≡ value_of 8 (take k bytes) → v < 256
         → IsRun (λ _ b. is_digit_of 8 b) 0 (take k (take 3 bytes)) (drop k (take 3 bytes)) → (k < 3) ⊎ (3 ≤ k) → IsEscape (take k bytes) (drop k bytes) v
     by_count k h w l a x y r (inl lt) =
@@ -171,40 +174,53 @@ simple_found c v e = is_110 (eqb c 110) refl e
   where
     some_is : (x y : ℕ) → Some x ≡ Some y → x ≡ y
     some_is x y e = cc
+
     at : (k w : ℕ) → eqb c k ≡ true → Some w ≡ Some v → IsSimple k w → IsSimple c v
     at k w i f s = rw (eqb-true c k i, ← some_is w v f) s
+
     same : (k : ℕ) → eqb c k ≡ true → Some c ≡ Some v → IsSimple k k → IsSimple c v
     same k i f s = rw (← some_is c v f, eqb-true c k i) s
+
     is_63 : eqb c 92 ≡ false → eqb c 39 ≡ false → eqb c 34 ≡ false → (t : Bool) → eqb c 63 ≡ t → cond t (Some c) None ≡ Some v → IsSimple c v
     is_63 x y z true i f = same 63 i f IsSimple.question
     is_63 x y z false i f = absurd cc
+
     is_34 : eqb c 92 ≡ false → eqb c 39 ≡ false → (t : Bool) → eqb c 34 ≡ t → cond (t || eqb c 63) (Some c) None ≡ Some v → IsSimple c v
     is_34 x y true i f = same 34 i f IsSimple.double_quote
     is_34 x y false i f = is_63 x y i (eqb c 63) refl f
+
     is_39 : eqb c 92 ≡ false → (t : Bool) → eqb c 39 ≡ t → cond (t || eqb c 34 || eqb c 63) (Some c) None ≡ Some v → IsSimple c v
     is_39 x true i f = same 39 i f IsSimple.single_quote
     is_39 x false i f = is_34 x i (eqb c 34) refl f
+
     is_92 : (t : Bool) → eqb c 92 ≡ t → cond (t || eqb c 39 || eqb c 34 || eqb c 63) (Some c) None ≡ Some v → IsSimple c v
     is_92 true i f = same 92 i f IsSimple.backslash
     is_92 false i f = is_39 i (eqb c 39) refl f
+
     is_118 : (t : Bool) → eqb c 118 ≡ t → cond t (Some 11) (cond (eqb c 92 || eqb c 39 || eqb c 34 || eqb c 63) (Some c) None) ≡ Some v → IsSimple c v
     is_118 true i f = at 118 11 i f IsSimple.vertical_tab
     is_118 false i f = is_92 (eqb c 92) refl f
+
     is_102 : (t : Bool) → eqb c 102 ≡ t → cond t (Some 12) (cond (eqb c 118) (Some 11) (cond (eqb c 92 || eqb c 39 || eqb c 34 || eqb c 63) (Some c) None)) ≡ Some v → IsSimple c v
     is_102 true i f = at 102 12 i f IsSimple.form_feed
     is_102 false i f = is_118 (eqb c 118) refl f
+
     is_98 : (t : Bool) → eqb c 98 ≡ t → cond t (Some 8) (cond (eqb c 102) (Some 12) (cond (eqb c 118) (Some 11) (cond (eqb c 92 || eqb c 39 || eqb c 34 || eqb c 63) (Some c) None))) ≡ Some v → IsSimple c v
     is_98 true i f = at 98 8 i f IsSimple.backspace
     is_98 false i f = is_102 (eqb c 102) refl f
+
     is_97 : (t : Bool) → eqb c 97 ≡ t → cond t (Some 7) (cond (eqb c 98) (Some 8) (cond (eqb c 102) (Some 12) (cond (eqb c 118) (Some 11) (cond (eqb c 92 || eqb c 39 || eqb c 34 || eqb c 63) (Some c) None)))) ≡ Some v → IsSimple c v
     is_97 true i f = at 97 7 i f IsSimple.alert
     is_97 false i f = is_98 (eqb c 98) refl f
+
     is_114 : (t : Bool) → eqb c 114 ≡ t → cond t (Some 13) (cond (eqb c 97) (Some 7) (cond (eqb c 98) (Some 8) (cond (eqb c 102) (Some 12) (cond (eqb c 118) (Some 11) (cond (eqb c 92 || eqb c 39 || eqb c 34 || eqb c 63) (Some c) None))))) ≡ Some v → IsSimple c v
     is_114 true i f = at 114 13 i f IsSimple.carriage_return
     is_114 false i f = is_97 (eqb c 97) refl f
+
     is_116 : (t : Bool) → eqb c 116 ≡ t → cond t (Some 9) (cond (eqb c 114) (Some 13) (cond (eqb c 97) (Some 7) (cond (eqb c 98) (Some 8) (cond (eqb c 102) (Some 12) (cond (eqb c 118) (Some 11) (cond (eqb c 92 || eqb c 39 || eqb c 34 || eqb c 63) (Some c) None)))))) ≡ Some v → IsSimple c v
     is_116 true i f = at 116 9 i f IsSimple.tab
     is_116 false i f = is_114 (eqb c 114) refl f
+
     is_110 : (t : Bool) → eqb c 110 ≡ t → cond t (Some 10) (cond (eqb c 116) (Some 9) (cond (eqb c 114) (Some 13) (cond (eqb c 97) (Some 7) (cond (eqb c 98) (Some 8) (cond (eqb c 102) (Some 12) (cond (eqb c 118) (Some 11) (cond (eqb c 92 || eqb c 39 || eqb c 34 || eqb c 63) (Some c) None))))))) ≡ Some v → IsSimple c v
     is_110 true i f = at 110 10 i f IsSimple.line_feed
     is_110 false i f = is_116 (eqb c 116) refl f
@@ -217,6 +233,7 @@ escape_found (c ∷ rest) v n e = by_feed (eqb c 10) e
   where
     Found : Type 0
     Found = (k : ℕ) × (n ≡ suc k) × (0 < k) × (k ≤ length (c ∷ rest)) × IsEscape (take k (c ∷ rest)) (drop k (c ∷ rest)) v
+
     by_simple : (o : Option ℕ) → simple_value c ≡ o → element_or_fault 2 o ≡ item (v, n) → (k : ℕ) × (n ≡ suc k) × (0 < k) × (k ≤ length (c ∷ rest)) × IsEscape (take k (c ∷ rest)) (drop k (c ∷ rest)) v
     by_simple None i f = absurd cc
     by_simple (Some w) i f =
@@ -224,15 +241,18 @@ escape_found (c ∷ rest) v n e = by_feed (eqb c 10) e
         let w_is : w ≡ v = ap {A = ℕ × ℕ} (λ x. x.0) same in
         let n_is : 2 ≡ n = ap {A = ℕ × ℕ} (λ x. x.1) same in
         (1, sym n_is, omega arith, omega arith, simple c rest v (simple_found c v (i ∙ ap Some w_is)))
+
     by_octal : (t : Bool) → cond t (digits_at 8 1 (run_len class.Octal (take 3 (c ∷ rest))) (c ∷ rest)) (element_or_fault 2 (simple_value c)) ≡ item (v, n)
         → (k : ℕ) × (n ≡ suc k) × (0 < k) × (k ≤ length (c ∷ rest)) × IsEscape (take k (c ∷ rest)) (drop k (c ∷ rest)) v
     by_octal true f = octal_found (c ∷ rest) v n f
     by_octal false f = by_simple (simple_value c) refl f
+
     by_hex : (t : Bool) → eqb c 120 ≡ t → cond t (digits_at 16 2 (run_len class.Hexadecimal rest) rest) (cond (is_digit_of 8 c) (digits_at 8 1 (run_len class.Octal (take 3 (c ∷ rest))) (c ∷ rest)) (element_or_fault 2 (simple_value c))) ≡ item (v, n)
         → (k : ℕ) × (n ≡ suc k) × (0 < k) × (k ≤ length (c ∷ rest)) × IsEscape (take k (c ∷ rest)) (drop k (c ∷ rest)) v
     by_hex true i f =
         subst (λ x. (k : ℕ) × (n ≡ suc k) × (0 < k) × (k ≤ length (x ∷ rest)) × IsEscape (take k (x ∷ rest)) (drop k (x ∷ rest)) v) (sym (eqb-true c 120 i)) (hexadecimal_found rest v n f)
     by_hex false i f = by_octal (is_digit_of 8 c) f
+
     by_feed : (t : Bool) → cond t (Err faults.Unclosed) (cond (eqb c 120) (digits_at 16 2 (run_len class.Hexadecimal rest) rest) (cond (is_digit_of 8 c) (digits_at 8 1 (run_len class.Octal (take 3 (c ∷ rest))) (c ∷ rest)) (element_or_fault 2 (simple_value c)))) ≡ item (v, n)
         → (k : ℕ) × (n ≡ suc k) × (0 < k) × (k ≤ length (c ∷ rest)) × IsEscape (take k (c ∷ rest)) (drop k (c ∷ rest)) v
     by_feed true f = absurd cc
@@ -300,20 +320,26 @@ escape_cases c rest n = rw (ne_eqb c 10 n) (by_hex (eqb c 120))
   where
     Cases : Step → Type 0
     Cases s = (s ≡ Err faults.BadEscape) ⊎ ((x : ℕ × ℕ) × (s ≡ item x))
+
     by_value : (len : ℕ) (o : Option ℕ) → (element_or_fault len o ≡ Err faults.BadEscape) ⊎ ((x : ℕ × ℕ) × (element_or_fault len o ≡ item x))
     by_value len None = inl refl
     by_value len (Some v) = inr ((v, len), refl)
+
     by_count : (before count : ℕ) (o : Option ℕ) (t : Bool) → (cond t (Err faults.BadEscape) (element_or_fault (before + count) o) ≡ Err faults.BadEscape) ⊎ ((x : ℕ × ℕ) × (cond t (Err faults.BadEscape) (element_or_fault (before + count) o) ≡ item x))
     by_count before count o true = inl refl
     by_count before count o false = by_value (before + count) o
+
     by_digits : (radix before count : ℕ) (bytes : List ℕ) → (digits_at radix before count bytes ≡ Err faults.BadEscape) ⊎ ((x : ℕ × ℕ) × (digits_at radix before count bytes ≡ item x))
     by_digits radix before count bytes = by_count before count (value_below 256 radix 0 (take count bytes)) (eqb count 0)
+
     octal_or_simple : Step → Bool → Step
     octal_or_simple s t = cond t s (element_or_fault 2 (simple_value c))
+
     by_octal : (t : Bool) → (cond t (digits_at 8 1 (run_len class.Octal (take 3 (c ∷ rest))) (c ∷ rest)) (element_or_fault 2 (simple_value c)) ≡ Err faults.BadEscape)
         ⊎ ((x : ℕ × ℕ) × (cond t (digits_at 8 1 (run_len class.Octal (take 3 (c ∷ rest))) (c ∷ rest)) (element_or_fault 2 (simple_value c)) ≡ item x))
     by_octal true = by_digits 8 1 (run_len class.Octal (take 3 (c ∷ rest))) (c ∷ rest)
     by_octal false = by_value 2 (simple_value c)
+
     by_hex : (t : Bool) → (cond t (digits_at 16 2 (run_len class.Hexadecimal rest) rest) (cond (is_digit_of 8 c) (digits_at 8 1 (run_len class.Octal (take 3 (c ∷ rest))) (c ∷ rest)) (element_or_fault 2 (simple_value c))) ≡ Err faults.BadEscape)
         ⊎ ((x : ℕ × ℕ) × (cond t (digits_at 16 2 (run_len class.Hexadecimal rest) rest) (cond (is_digit_of 8 c) (digits_at 8 1 (run_len class.Octal (take 3 (c ∷ rest))) (c ∷ rest)) (element_or_fault 2 (simple_value c))) ≡ item x))
     by_hex true = by_digits 16 2 (run_len class.Hexadecimal rest) rest
@@ -358,6 +384,7 @@ escape_read quote (c ∷ rest) = by_feed (eqb c 10) refl
   where
     at_feed : c ≡ 10 → Reads quote (92 ∷ c ∷ rest) (escape_at (c ∷ rest))
     at_feed e = rw (e, escape_feed rest) (ended (escaped_line rest))
+
     by_cases : c ≢ 10 → (escape_at (c ∷ rest) ≡ Err faults.BadEscape) ⊎ ((x : ℕ × ℕ) × (escape_at (c ∷ rest) ≡ item x)) → Reads quote (92 ∷ c ∷ rest) (escape_at (c ∷ rest))
     by_cases n (inl e) = rw e (bad_escape (bad c rest n (λ s after v w i. other s after v i w)))
       where
@@ -367,6 +394,7 @@ escape_read quote (c ∷ rest) = by_feed (eqb c 10) refl
         let found = escape_found (c ∷ rest) p.0.0 p.0.1 p.1 in
         let len = found.1 in
         rw (p.1) (rw len (an_element p.0.0 (suc found.0) (omega arith) (omega arith) (escape (take found.0 (c ∷ rest)) (drop found.0 (c ∷ rest)) p.0.0 found.4)))
+
     by_feed : (t : Bool) → eqb c 10 ≡ t → Reads quote (92 ∷ c ∷ rest) (escape_at (c ∷ rest))
     by_feed true i = at_feed (eqb-true c 10 i)
     by_feed false i = by_cases (eqb-false c 10 i) (escape_cases c rest (eqb-false c 10 i))
@@ -379,9 +407,11 @@ element_read quote (b ∷ rest) = by_quote (eqb b quote) refl
     by_slash : b ≢ quote → b ≢ 10 → (t : Bool) → eqb b 92 ≡ t → Reads quote (b ∷ rest) (cond t (escape_at rest) (Ok (Some (b, 1))))
     by_slash q n true i = subst (λ x. Reads quote (x ∷ rest) (escape_at rest)) (sym (eqb-true b 92 i)) (escape_read quote rest)
     by_slash q n false i = an_element b 1 (omega arith) (omega arith) (plain b rest q (eqb-false b 92 i) n)
+
     by_feed : b ≢ quote → (t : Bool) → eqb b 10 ≡ t → Reads quote (b ∷ rest) (cond t (Err faults.Unclosed) (cond (eqb b 92) (escape_at rest) (Ok (Some (b, 1)))))
     by_feed q true i = subst (λ x. Reads quote (x ∷ rest) (Err faults.Unclosed)) (sym (eqb-true b 10 i)) (ended (end_of_line rest))
     by_feed q false i = by_slash q (eqb-false b 10 i) (eqb b 92) refl
+
     by_quote : (t : Bool) → eqb b quote ≡ t → Reads quote (b ∷ rest) (cond t (Ok None) (cond (eqb b 10) (Err faults.Unclosed) (cond (eqb b 92) (escape_at rest) (Ok (Some (b, 1))))))
     by_quote true i = closing rest (ap (λ x. x ∷ rest) (eqb-true b quote i))
     by_quote false i = by_feed (eqb-false b quote i) (eqb b 10) refl
@@ -418,7 +448,7 @@ elements_read quote q = record {
   some = λ s rest v i. element_some quote s rest v i;
   again = λ s rest v i. ap item_of (element_again quote s rest v q i);
   moves = λ bytes v n e. let p = read_item quote bytes (element_at quote bytes) v n (element_read quote bytes) e in (p.0, p.1);
-  found = λ bytes v n e. (read_item quote bytes (element_at quote bytes) v n (element_read quote bytes) e).2
+  found = λ bytes v n e. (read_item quote bytes (element_at quote bytes) v n (element_read quote bytes) e).2;
 }
 
 -- ---- what is between two quotes
@@ -499,5 +529,6 @@ unquoted_again quote b s rest values f q i why = by_element (by_why why)
     by_why : ((f ≡ faults.Unclosed) × EndsLine rest) ⊎ ((f ≡ faults.BadEscape) × IsBadEscape rest) → element_at quote rest ≡ Err f
     by_why (inl p) = ended_again quote rest q p.1 ∙ ap (λ x. Err x) (sym p.0)
     by_why (inr p) = bad_again quote rest q p.1 ∙ ap (λ x. Err x) (sym p.0)
+
     by_element : element_at quote rest ≡ Err f → quoted_at quote (b ∷ (s ++ rest)) ≡ Err f
     by_element e = closed_at quote b s rest values (quote_is quote q).0 i (ap item_of e) ∙ ap (closed values (suc (length (s ++ rest)) - length rest + 1)) e

@@ -9,7 +9,7 @@ run_found c before [] = tt
 run_found c before (b ∷ bs) = by_test (run_found c b bs) (c before b) refl
   where
     by_test : IsRun c b (take (run_behind c b bs) bs) (drop (run_behind c b bs) bs) → (t : Bool) → c before b ≡ t
-      → IsRun c before (take (cond t (suc (run_behind c b bs)) 0) (b ∷ bs)) (drop (cond t (suc (run_behind c b bs)) 0) (b ∷ bs))
+        → IsRun c before (take (cond t (suc (run_behind c b bs)) 0) (b ∷ bs)) (drop (cond t (suc (run_behind c b bs)) 0) (b ∷ bs))
     by_test go true e = (e, go)
     by_test go false e = e
 

@@ -180,9 +180,13 @@ mark_found text o len e = by_row (first_row (λ x. begins x text) punctuators) r
     by_row None f g = absurd cc
     by_row (Some row) f g =
         let p = row_found (λ x. begins x text) punctuators row f in
-        let same : (Some (Token.Mark row.1), length row.0) ≡ (o, len) = ok_is _ _ g in
-        (row.0, row.1, sym (ap (λ (x : Option Token × ℕ). x.0) same), sym (ap (λ (x : Option Token × ℕ). x.1) same),
-            record { is_punctuator = p.0; at_front = p.1; longest = λ t m n h. first_is_longest (λ x. begins x text) t m row punctuators marks_fall f n h })
+        let same : (Some (Token.Mark row.1), length row.0) ≡ (o, len) = ok_is _ _ g in (
+          row.0,
+          row.1,
+          sym (ap (λ (x : Option Token × ℕ). x.0) same),
+          sym (ap (λ (x : Option Token × ℕ). x.1) same),
+          record { is_punctuator = p.0; at_front = p.1; longest = λ t m n h. first_is_longest (λ x. begins x text) t m row punctuators marks_fall f n h },
+        )
       where
         ok_is : (x y : Option Token × ℕ) → found x ≡ found y → x ≡ y
         ok_is x y h = cc

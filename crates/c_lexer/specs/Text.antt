@@ -44,6 +44,6 @@ pub data Lexes : List ℕ → Result (List Lexeme) LexError → Type 0 where
   whole : (text : List ℕ) (pieces : List Piece) → length text ≤ 1048576 → IsCut text [] pieces → Lexes text (Ok (tokens_of 0 1 pieces))
   faulty : (text front rest : List ℕ) (pieces : List Piece) (fault : Fault) → length text ≤ 1048576 → text ≡ front ++ rest → IsCut front rest pieces → IsFaulty rest fault → Lexes text (Err (refusal fault (1 + line_feeds front)))
 
--- a text has one reading at most
+-- a text has one reading
 abbrev pub HasOneReading : Type 0
-HasOneReading = (text : List ℕ) (a b : Result (List Lexeme) LexError) → Lexes text a → Lexes text b → a ≡ b
+HasOneReading = (text : List ℕ) → (reading : Result (List Lexeme) LexError) × Lexes text reading × ((other : Result (List Lexeme) LexError) → Lexes text other → other ≡ reading)

@@ -1,15 +1,15 @@
 //! The tokens of a text.
-ghost use Rattle.std.specs.Prelude.{◌≡◌, ◌≤◌, ◌<◌, ◌^◌, List, Result, Ok, length, IfOk, IfErr};
-ghost use Rattle.c_lexer.specs.Text.{HasOneReading, Lexeme, Lexes};
-ghost use Rattle.c_lexer.specs.Views.{lexemes, Answers, IsReading, IsRefusal};
+ghost use Rattle.std.specs.Prelude.{◌≡◌, ◌++◌, ◌≤◌, ◌<◌, ◌^◌, List, Result, Ok, length, option_map, IfOk, IfErr, OnOk};
+ghost use Rattle.c_lexer.specs.Text.{HasOneReading, Lexeme, Lexes, lexemes_of};
+ghost use Rattle.c_lexer.specs.Views.{token_of, lexemes, Answers, IsReading, IsRefusal};
 ghost use Rattle.c_lexer.specs.Gives.{GivesOn};
 ghost use Rattle.c_lexer.specs.Reading as reading;
 
 use crate::bytes::line_feeds;
 use crate::fault::{LexError, PieceError};
 use crate::piece::{Piece, piece_at};
-use crate::token::{Token, Tokens};
-use std::alloc::Global;
+use crate::token::{Token, TokenKind, Tokens};
+use std::alloc::{AllocError, Global};
 
 /// How many bytes a text may have.
 const MAX_LEN: usize = 1_048_576;
@@ -27,6 +27,27 @@ fn piece_on(alloc: Global, text: &[u8], line: u32) -> Result<Piece, LexError>
     }
 }
 
+// Adds the token of a piece, if it is one.
+fn push_token(
+    tokens: &mut Tokens,
+    token: Option<TokenKind>,
+    start: u32,
+    len: u32,
+    line: u32,
+) -> Result<(), AllocError>
+    ensures { OnOk result (lexemes tokens.new ≡ lexemes tokens.old ++ lexemes_of (option_map token_of token) start len line) }
+{
+    if let Some(kind) = token {
+        tokens.push(Token {
+            kind,
+            start,
+            len,
+            line,
+        })?;
+    }
+    Ok(())
+}
+
 // The tokens of a text that is not too long.
 fn read(alloc: Global, text: &[u8]) -> Result<Tokens, LexError>
     requires { length text.now ≤ 1048576 }
@@ -37,14 +58,8 @@ fn read(alloc: Global, text: &[u8]) -> Result<Tokens, LexError>
     let mut line = 1;
     while !rest.is_empty() {
         let Piece { token, len } = piece_on(alloc, rest, line)?;
-        if let Some(kind) = token {
-            tokens.push(Token {
-                kind,
-                start: (text.len() - rest.len()) as u32,
-                len: len as u32,
-                line,
-            })?;
-        }
+        let start = (text.len() - rest.len()) as u32;
+        push_token(&mut tokens, token, start, len as u32, line)?;
         line += line_feeds(&rest[..len]) as u32;
         rest = &rest[len..];
     }
@@ -69,7 +84,7 @@ pub fn lex(alloc: Global, text: &[u8]) -> Result<Tokens, LexError>
     read(alloc, text)
 }
 
-/// A text has one reading at most: its tokens, or one refusal.
+/// A text has one reading: its tokens, or one refusal.
 pub fn one_reading()
     ensures { HasOneReading }
 {}
