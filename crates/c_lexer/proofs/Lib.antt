@@ -6,3 +6,4 @@ pub mod QuoteLemmas
 pub mod SpaceLemmas
 pub mod PieceLemmas
 pub mod TextLemmas
+pub mod ReadLemmas

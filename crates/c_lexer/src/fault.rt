@@ -50,7 +50,7 @@ impl From<Fault> for PieceError {
 }
 
 /// Why a text has no tokens. Each line is that of the first place that nothing fits, from 1.
-#[derive(Debug, Drop, Error)]
+#[derive(Clone, Copy, Debug, PartialEq, Eq, Error)]
 pub enum LexError {
     #[error("the text has {length} bytes, and 1048576 are allowed")]
     TooLong { length: u32 },

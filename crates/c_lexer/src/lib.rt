@@ -14,3 +14,6 @@ mod words;
 pub use fault::LexError;
 pub use text::lex;
 pub use token::{Token, TokenKind, Tokens};
+
+#[cfg(test)]
+mod tests;

@@ -88,28 +88,3 @@ pub fn lex(alloc: Global, text: &[u8]) -> Result<Tokens, LexError>
 pub fn one_reading()
     ensures { HasOneReading }
 {}
-
-#[cfg(test)]
-mod tests {
-    use super::*;
-    use std::test::Fail;
-
-    #[test]
-    fn counts(rt: HostRuntime) -> Result<(), Fail> {
-        for (text, count) in [
-            (b"int main(void){return 42;}".as_slice(), 10),
-            (b"a>>=b/*\n*/c", 4),
-            (b"0x1e+2", 0),
-            (b"'\\377' '\\xff' \"a\\12\\1234\"", 3),
-        ] {
-            match lex(rt.alloc(), text) {
-                Ok(tokens) => {
-                    println!(rt; "{}", tokens.len())?;
-                    assert_eq!(rt; tokens.len(), count);
-                }
-                Err(e) => println!(rt; "{e}")?,
-            }
-        }
-        Ok(())
-    }
-}
