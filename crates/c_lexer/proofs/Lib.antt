@@ -7,3 +7,4 @@ pub mod SpaceLemmas
 pub mod PieceLemmas
 pub mod TextLemmas
 pub mod ReadLemmas
+pub mod PlacedLemmas

@@ -8,8 +8,8 @@ use Rattle.c_lexer.specs.declared.bytes.Class.TheVariants as class
 use Rattle.c_lexer.specs.declared.fault.Fault.{Fault}
 use Rattle.c_lexer.specs.declared.fault.Fault.TheVariants as faults
 use Rattle.c_lexer.specs.Bytes.{is_gap, IsRun, IsRunOf}
-use Rattle.c_lexer.specs.Pieces.{IsRow, here, there, begins, IsNextEnd, IsComment, block, line, AllIn, headers, IsDirective, include}
-use Rattle.c_lexer.specs.Reading.{continues, run_behind, run_len, first_row, Found, one_more, comment_end, comment_or_fault, block_comment_at, past_gaps, row_len, header_len, directive_or_fault, header_at, directive_at}
+use Rattle.c_lexer.specs.Pieces.{IsRow, here, there, begins, IsNextEnd, IsComment, block, line, AllIn, IsHeader, stdio, stdlib, string, IsDirective, include}
+use Rattle.c_lexer.specs.Reading.{continues, run_behind, run_len, first_row, Found, headers, one_more, comment_end, comment_or_fault, block_comment_at, past_gaps, row_len, header_len, directive_or_fault, header_at, directive_at}
 use Rattle.c_lexer.proofs.RunLemmas.{run_found, run_again, run_within}
 use Rattle.c_lexer.proofs.TableLemmas.{row_found, no_row, no_row_again, Each, at_row, begins_split, begins_append}
 
@@ -135,6 +135,16 @@ header_is : Each (λ r. (r.0 ≡ 60 ∷ drop 1 r.0) × ((rest : List ℕ) → fi
 unfolding headers
 header_is = ((refl, λ rest. refl), ((refl, λ rest. refl), ((refl, λ rest. refl), tt)))
 
+header_row : (h : List ℕ) → IsHeader h → IsRow h tt headers
+unfolding headers
+header_row _ stdio = here _
+header_row _ stdlib = there _ _ (here _)
+header_row _ string = there _ _ (there _ _ (here _))
+
+rows_are_headers : Each (λ r. IsHeader r.0) headers
+unfolding headers
+rows_are_headers = (stdio, (stdlib, (string, tt)))
+
 sixty : is_gap 60 ≡ false
 unfolding is_gap
 sixty = refl
@@ -149,7 +159,8 @@ header_no_gap (b ∷ h) rest e = rw (head_is b 60 h (drop 1 (b ∷ h)) e).0 sixt
 
 pub directive_again : (s rest : List ℕ) → IsDirective s → directive_at (s ++ rest) ≡ Ok (None, length s)
 unfolding directive_at header_len
-directive_again _ rest (include b w h gb gw m) =
+directive_again _ rest (include b w h gb gw i) =
+    let m = header_row h i in
     let inc = codes "include" in
     let row = at_row (λ r. (r.0 ≡ 60 ∷ drop 1 r.0) × ((rest : List ℕ) → first_row (λ s. begins s (r.0 ++ rest)) headers ≡ Some r)) h tt headers header_is m in
     let regroup : (((b ++ inc) ++ w) ++ h) ++ rest ≡ b ++ (inc ++ (w ++ (h ++ rest))) = simp append_assoc in
@@ -207,7 +218,7 @@ directive_found bs = by_name (begins (codes "include") (past_gaps bs)) refl
         ap (λ t. 35 ∷ t) (g.2 ∙ ap (λ t. g.0 ++ t) (name ∙ ap (λ t. codes "include" ++ t) (w.2 ∙ ap (λ t. w.0 ++ t) h.2)) ∙ sym regroup) in
         let len : length (35 ∷ bs) - length (past_gaps after) + k ≡ length s =
         omega (arith, h.3, ap length parts, ap length h.2, length-append (((g.0 ++ codes "include") ++ w.0) ++ h.0) rest, length-append ((g.0 ++ codes "include") ++ w.0) h.0, length-append h.0 rest) in
-        (refl, s, rest, parts, len, include g.0 w.0 h.0 g.1 w.1 h.1)
+        (refl, s, rest, parts, len, include g.0 w.0 h.0 g.1 w.1 (at_row (λ r. IsHeader r.0) h.0 tt headers rows_are_headers h.1))
 
     by_name : (t : Bool) → begins (codes "include") (past_gaps bs) ≡ t → DirectiveOutcome (35 ∷ bs) (cond t (header_at (length (35 ∷ bs)) (drop 7 (past_gaps bs))) (Err faults.BadDirective))
     by_name true i = by_header i (header_len (past_gaps (drop 7 (past_gaps bs)))) refl

@@ -1,5 +1,5 @@
 -- The reading of a text: what the loop keeps, and that there is one.
-use Rattle.std.proofs.Common.{◌≡◌, ◌⊎◌, inl, inr, ℕ, zero, suc, ◌+◌, ◌-◌, ◌<◌, ◌≤◌, eqb, ltb, Bool, true, false, cond, List, [], ◌∷◌, ◌++◌, length, take, drop, Option, Some, None, Result, Ok, Err, refl, sym, ap, subst, ◌∙◌, append_assoc, append-nil, length-append, length-take, take-append-drop, take_at, drop_at, arith, ltb-true, lt-ltb, le-ltb}
+use Rattle.std.proofs.Common.{◌≡◌, ◌⊎◌, inl, inr, ℕ, zero, suc, ◌+◌, ◌-◌, ◌<◌, ◌≤◌, eqb, ltb, Bool, true, false, cond, List, [], ◌∷◌, ◌++◌, length, take, drop, Option, Some, None, Result, Ok, Err, refl, sym, ap, subst, ◌∙◌, append_assoc, append-nil, length-append, length-take, take-append-drop, take_at, drop_at, drop-drop, arith, ltb-true, lt-ltb, le-ltb}
 use Rattle.std.proofs.lemmas.Bool.{cases_lt}
 use Rattle.c_tree.specs.Tokens.{Token}
 use Rattle.c_lexer.specs.declared.fault.Fault.{Fault}
@@ -9,7 +9,7 @@ use Rattle.c_lexer.specs.Bytes.{line_feeds}
 use Rattle.c_lexer.specs.Refusals.{refusal}
 use Rattle.c_lexer.specs.Pieces.{Items, done, more, IsPiece, IsFaulty}
 use Rattle.c_lexer.specs.Reading.{Found, piece_at, items_from}
-use Rattle.c_lexer.specs.Text.{Lexeme, Piece, Stands, lexemes_of, tokens_of, IsCut, Lexes, too_long, whole, faulty, HasOneReading}
+use Rattle.c_lexer.specs.Text.{Lexeme, Piece, Stands, lexemes_of, tokens_of, IsCut, Lexes, too_long, whole, faulty, HasOneReading, AreSlices, HasSlices}
 use Rattle.c_lexer.proofs.ItemsLemmas.{IsRead, AreFound, items_again, items_found, items_push}
 use Rattle.c_lexer.proofs.PieceLemmas.{IsOutcome, piece_outcome, piece_nil, piece_some, piece_again, fault_again}
 
@@ -205,3 +205,47 @@ a_reading bytes = by_length (cases_lt 1048576 (length bytes))
 -- a text has one reading
 pub one_reading_lem : HasOneReading
 one_reading_lem bytes = let r = a_reading bytes in (r.0, r.1, λ other p. same_reading bytes other r.0 p r.1)
+
+-- ---- the slices of tokens
+
+abbrev read_ok : List Lexeme → Result (List Lexeme) LexError
+read_ok x = Ok x
+
+later : (bytes : List ℕ) (low high : ℕ) (ts : List Lexeme) → low ≤ high → AreSlices bytes high ts → AreSlices bytes low ts
+later bytes low high [] l h = tt
+later bytes low high (t ∷ ts) l h = (omega arith, h.1, h.2, h.3)
+
+slices : (bytes front : List ℕ) (s : List ℕ) (ps : List Piece) → IsCut s [] ps → bytes ≡ front ++ s → AreSlices bytes (length front) (tokens_of (length front) (1 + line_feeds front) ps)
+slices bytes front _ _ done e = tt
+slices bytes front _ _ (more s t p ps i is) e =
+    let parts : bytes ≡ front ++ (s ++ t) = e in
+    let next : bytes ≡ (front ++ s) ++ t = parts ∙ sym (append_assoc front s t) in
+    let len : length front + length p.spelling ≡ length (front ++ s) = omega (arith, ap length i.0, length-append front s) in
+    let feeds : 1 + line_feeds front + line_feeds p.spelling ≡ 1 + line_feeds (front ++ s) = omega (arith, ap line_feeds i.0, line_feeds-append front s) in
+    let tail = slices bytes (front ++ s) t ps is next in
+    let tail' : AreSlices bytes (length front + length p.spelling) (tokens_of (length front + length p.spelling) (1 + line_feeds front + line_feeds p.spelling) ps) = rw (len, feeds) tail in
+    by_token p.token (subst (λ x. IsPiece s x p.token) (append-nil t) i.1) i.0 parts next tail'
+  where
+    by_token : (o : Option Token) → IsPiece s t o → p.spelling ≡ s → bytes ≡ front ++ (s ++ t) → bytes ≡ (front ++ s) ++ t
+        → AreSlices bytes (length front + length p.spelling) (tokens_of (length front + length p.spelling) (1 + line_feeds front + line_feeds p.spelling) ps)
+        → AreSlices bytes (length front) (lexemes_of o (length front) (length p.spelling) (1 + line_feeds front) ++ tokens_of (length front + length p.spelling) (1 + line_feeds front + line_feeds p.spelling) ps)
+    by_token None piece a parts next tail = later bytes (length front) (length front + length p.spelling) _ (omega arith) tail
+    by_token (Some k) piece a parts next tail =
+        let front_is : take (length front) bytes ≡ front = ap (take (length front)) parts ∙ take_at front (s ++ t) (length front) refl in
+        let behind : drop (length front) bytes ≡ s ++ t = ap (drop (length front)) parts ∙ drop_at front (s ++ t) (length front) refl in
+        let size : length p.spelling ≡ length s = ap length a in
+        let slice : take (length p.spelling) (drop (length front) bytes) ≡ s = rw (behind) (take_at s t (length p.spelling) (sym size)) in
+        let len : length front + length p.spelling ≡ length (front ++ s) = omega (arith, size, length-append front s) in
+        let rest : drop (length front + length p.spelling) bytes ≡ t = ap (λ n. drop n bytes) len ∙ ap (drop (length (front ++ s))) next ∙ drop_at (front ++ s) t (length (front ++ s)) refl in
+        (omega arith, rw (slice, rest) piece, ap (λ x. 1 + line_feeds x) (sym front_is), tail)
+
+tokens_slices : (bytes : List ℕ) (r : Result (List Lexeme) LexError) (ts : List Lexeme) → Lexes bytes r → r ≡ Ok ts → AreSlices bytes 0 ts
+tokens_slices bytes _ ts (too_long _ l) e = absurd cc
+tokens_slices bytes _ ts (whole _ ps l c) e = subst (λ x. AreSlices bytes 0 x) (ok_is _ _ e) (slices bytes [] bytes ps c refl)
+  where
+    ok_is : (x y : List Lexeme) → read_ok x ≡ read_ok y → x ≡ y
+    ok_is x y f = cc
+tokens_slices bytes _ ts (faulty _ front rest ps f l g c i) e = absurd cc
+
+pub slices_lem : HasSlices
+slices_lem bytes ts h = tokens_slices bytes (Ok ts) ts h refl

@@ -109,12 +109,14 @@ AllIn is_in [] = Unit {0}
 AllIn is_in (b ∷ bs) = (is_in b ≡ true) × AllIn is_in bs
 
 -- the headers that may be included
-unfoldable pub headers : List (List ℕ × Unit {0})
-headers = (codes "<stdio.h>", tt) ∷ (codes "<stdlib.h>", tt) ∷ (codes "<string.h>", tt) ∷ []
+pub data IsHeader : List ℕ → Type 0 where
+  stdio : IsHeader (codes "<stdio.h>")
+  stdlib : IsHeader (codes "<stdlib.h>")
+  string : IsHeader (codes "<string.h>")
 
 -- `#`, `include` and a header, with spaces and tabs between them (C11 6.10.2)
 pub data IsDirective : List ℕ → Type 0 where
-  include : (before between header : List ℕ) → AllIn is_gap before → AllIn is_gap between → IsRow header tt headers → IsDirective (35 ∷ (before ++ codes "include" ++ between ++ header))
+  include : (before between header : List ℕ) → AllIn is_gap before → AllIn is_gap between → IsHeader header → IsDirective (35 ∷ (before ++ codes "include" ++ between ++ header))
 
 -- ---- pieces
 

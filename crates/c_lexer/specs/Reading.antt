@@ -9,7 +9,7 @@ use Rattle.c_lexer.specs.declared.fault.Fault.{Fault}
 use Rattle.c_lexer.specs.declared.fault.Fault.TheVariants as faults
 use Rattle.c_lexer.specs.Bytes.{is_blank, is_gap, is_letter, is_digit, is_word, continues_number, is_unsigned_suffix, is_hex_mark, digit_value, is_digit_of}
 use Rattle.c_lexer.specs.Words.{reserved_words, punctuators}
-use Rattle.c_lexer.specs.Pieces.{begins, headers}
+use Rattle.c_lexer.specs.Pieces.{begins}
 
 infixl 10 ◌>>=◌
 abbrev pub ◌>>=◌ : {A B E : Type 0} → Result A E → (A → Result B E) → Result B E
@@ -209,6 +209,9 @@ past_gaps text = drop (run_len class.Gap text) text
 abbrev pub row_len : {A : Type 0} → Option (List ℕ × A) → Option ℕ
 row_len None = None
 row_len (Some row) = Some (length row.0)
+
+unfoldable pub headers : List (List ℕ × Unit {0})
+headers = (codes "<stdio.h>", tt) ∷ (codes "<stdlib.h>", tt) ∷ (codes "<string.h>", tt) ∷ []
 
 -- how many bytes the header in front has
 unfoldable pub header_len : List ℕ → Option ℕ

@@ -12,7 +12,7 @@ pub mod token;
 mod words;
 
 pub use fault::LexError;
-pub use text::lex;
+pub use text::{lex, one_reading, tokens_are_slices};
 pub use token::{Token, TokenKind, Tokens};
 
 #[cfg(test)]

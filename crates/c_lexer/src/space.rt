@@ -59,7 +59,7 @@ pub fn directive_len(text: &[u8]) -> Result<usize, Fault>
 }
 
 // The length of the header in front of the text.
-#[tactic(auto, unfolding(crate::specs::Reading::header_len, crate::specs::Pieces::headers))]
+#[tactic(auto, unfolding(crate::specs::Reading::header_len, crate::specs::Reading::headers))]
 fn header_len(text: &[u8]) -> Option<usize>
     ensures value { result ≡ reading.header_len text.now }
     ensures within { IfSome result (λ n. n ≤ length text.now) }

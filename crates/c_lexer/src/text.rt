@@ -1,6 +1,6 @@
 //! The tokens of a text.
 ghost use Rattle.std.specs.Prelude.{◌≡◌, ◌++◌, ◌≤◌, ◌<◌, ◌^◌, List, Result, Ok, length, option_map, IfOk, IfErr, OnOk};
-ghost use Rattle.c_lexer.specs.Text.{HasOneReading, Lexeme, Lexes, lexemes_of};
+ghost use Rattle.c_lexer.specs.Text.{HasOneReading, HasSlices, Lexeme, Lexes, lexemes_of};
 ghost use Rattle.c_lexer.specs.Views.{token_of, lexemes, Answers, IsReading, IsRefusal};
 ghost use Rattle.c_lexer.specs.Gives.{GivesOn};
 ghost use Rattle.c_lexer.specs.Reading as reading;
@@ -66,7 +66,8 @@ fn read(alloc: Global, text: &[u8]) -> Result<Tokens, LexError>
     Ok(tokens)
 }
 
-/// The tokens of a text (C11 6.4), or the fault at the first place where no token, blank, comment or directive stands.
+/// The tokens of a text (C11 6.4), each the longest at its place, or the fault at the first place where no token, blank,
+/// comment or directive stands. A text of more than a mebibyte is refused.
 pub fn lex(alloc: Global, text: &[u8]) -> Result<Tokens, LexError>
     requires { length text.now < 2 ^ 32 }
     // The tokens are those of the text.
@@ -87,4 +88,9 @@ pub fn lex(alloc: Global, text: &[u8]) -> Result<Tokens, LexError>
 /// A text has one reading: its tokens, or one refusal.
 pub fn one_reading()
     ensures { HasOneReading }
+{}
+
+/// Each token is the slice of the text that its place and its length tell, on the line that it tells; places rise.
+pub fn tokens_are_slices()
+    ensures { HasSlices }
 {}

@@ -1,6 +1,6 @@
 //! Tokens, each with its place in the text.
 use bb_words::list::List;
-use c_tree::place::{Bytes, Name};
+use c_tree::place::{At, Bytes, Name};
 use c_tree::words::{Punctuator, Reserved};
 
 /// A token with its value (C11 6.4).
@@ -27,6 +27,20 @@ pub struct Token {
     pub start: u32,
     pub len: u32,
     pub line: u32,
+}
+
+impl Token {
+    ghost use Rattle.std.specs.Prelude.{◌≡◌};
+
+    /// Where a node of a tree stands that begins with this token, the token of that number.
+    pub fn at(&self, number: u32) -> At
+        ensures { result ≡ record { token = number; line = self.now.line } }
+    {
+        At {
+            token: number,
+            line: self.line,
+        }
+    }
 }
 
 /// The tokens of a text, in order.
