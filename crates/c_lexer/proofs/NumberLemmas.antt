@@ -1,6 +1,6 @@
 -- The integer constants are what is read as one.
-use Rattle.std.proofs.Common.{◌≡◌, ◌≢◌, ◌⊎◌, inl, inr, ℕ, zero, suc, ◌+◌, ◌-◌, ◌*◌, ◌^◌, ◌<◌, ◌≤◌, eqb, leb, ltb, Bool, true, false, not, ◌&&◌, ◌||◌, cond, List, [], ◌∷◌, ◌++◌, length, take, drop, get_or, Option, Some, None, refl, sym, ap, subst, ◌∙◌, arith, leb-true, leb-false, le-leb, eqb-true, eq-eqb, ne_eqb, ltb-true, lt-ltb, length-append, take_at, mul-le-mul_left}
-use Rattle.std.proofs.lemmas.Bool.{false≢true, and_parts, eqb-false, cases_Bool, lt-leb, or_cases, cases_lt}
+use Rattle.std.proofs.Common.{◌≡◌, ◌≢◌, ◌⊎◌, inl, inr, ℕ, zero, suc, ◌+◌, ◌-◌, ◌*◌, ◌^◌, ◌<◌, ◌≤◌, eqb, leb, ltb, Bool, true, false, not, ◌&&◌, ◌||◌, cond, List, [], ◌∷◌, ◌++◌, length, take, get_or, Option, Some, None, refl, sym, ap, subst, ◌∙◌, arith, le-leb, eqb-true, ne_eqb, ltb-true, lt-ltb, length-append, take_at}
+use Rattle.std.proofs.lemmas.Bool.{false≢true, eqb-false, lt-leb, cases_lt}
 use Rattle.std.proofs.lemmas.Bool.Decides.{nat_tests}
 use Rattle.std.proofs.lemmas.List.{get_or_at}
 use Rattle.c_lexer.specs.Bytes.{is_digit, is_digit_of, digit_value, is_hex_mark, is_unsigned_suffix}

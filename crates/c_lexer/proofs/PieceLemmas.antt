@@ -1,6 +1,6 @@
 -- The pieces of a text are what is read in front of it.
-use Rattle.std.proofs.Common.{◌≡◌, ◌≢◌, ◌⊎◌, inl, inr, ℕ, zero, suc, ◌+◌, ◌-◌, ◌<◌, ◌≤◌, eqb, Bool, true, false, not, ◌&&◌, ◌||◌, cond, List, [], ◌∷◌, ◌++◌, length, take, drop, get_or, Option, Some, None, Result, Ok, Err, refl, sym, ap, subst, ◌∙◌, append_assoc, append-nil, length-append, length-drop, length-take, take-append-drop, take_at, drop_at, arith, eqb-true, eq-eqb, ne_eqb, codes, bytes_eq}
-use Rattle.std.proofs.lemmas.Bool.{false≢true, eqb-false, and_parts}
+use Rattle.std.proofs.Common.{◌≡◌, ◌≢◌, ◌⊎◌, inl, inr, ℕ, suc, ◌+◌, ◌<◌, ◌≤◌, eqb, Bool, true, false, not, ◌&&◌, ◌||◌, cond, List, [], ◌∷◌, ◌++◌, length, take, drop, get_or, Option, Some, None, Result, Ok, Err, refl, sym, ap, subst, ◌∙◌, append_assoc, length-append, take-append-drop, take_at, drop_at, arith, eqb-true, codes, bytes_eq}
+use Rattle.std.proofs.lemmas.Bool.{false≢true}
 use Rattle.std.proofs.lemmas.Bool.Decides.{nat_tests}
 use Rattle.c_tree.specs.Tokens.{Token}
 use Rattle.c_tree.specs.declared.words.Punctuator.{Punctuator}
@@ -8,16 +8,16 @@ use Rattle.c_tree.specs.declared.words.Punctuator.TheVariants as marks
 use Rattle.c_lexer.specs.declared.bytes.Class.TheVariants as class
 use Rattle.c_lexer.specs.declared.fault.Fault.{Fault}
 use Rattle.c_lexer.specs.declared.fault.Fault.TheVariants as faults
-use Rattle.c_lexer.specs.Bytes.{is_blank, is_letter, is_digit, is_word, continues_number, IsRun, IsRunOf}
+use Rattle.c_lexer.specs.Bytes.{is_blank, is_letter, is_digit, is_word, continues_number, IsRun}
 use Rattle.c_lexer.specs.Numbers.{IsNumber}
 use Rattle.c_lexer.specs.Words.{punctuators}
-use Rattle.c_lexer.specs.Pieces.{IsRow, begins, IsLongest, HasNoMark, Items, IsElement, EndsLine, IsBadEscape, IsQuote, IsComment, block, line, BeginsNoComment, begins_piece, IsDirective, IsPiece, IsFaulty}
-use Rattle.c_lexer.specs.Reading.{continues, run_behind, run_len, Found, identifier, mark_at, number_of, number_or_fault, number_at, quoted_at, single, string_at, character_at, comment_end, comment_or_fault, block_comment_at, directive_at, identifier_at, slash_at, piece_at, ◌>>=◌}
+use Rattle.c_lexer.specs.Pieces.{IsRow, begins, IsLongest, EndsLine, IsBadEscape, IsQuote, IsComment, block, line, BeginsNoComment, begins_piece, IsDirective, IsPiece, IsFaulty}
+use Rattle.c_lexer.specs.Reading.{run_behind, run_len, Found, identifier, mark_at, number_of, number_or_fault, number_at, quoted_at, single, string_at, character_at, comment_end, comment_or_fault, block_comment_at, directive_at, identifier_at, slash_at, piece_at, ◌>>=◌}
 use Rattle.c_lexer.proofs.RunLemmas.{run_found, run_again, run_within}
-use Rattle.c_lexer.proofs.TableLemmas.{identifier_found, identifier_again, mark_found, mark_again, no_mark_found, no_mark_again, Each, at_row, row_found, begins_split, begins_append}
+use Rattle.c_lexer.proofs.TableLemmas.{identifier_found, identifier_again, mark_found, mark_again, no_mark_found, no_mark_again, Each, at_row, row_found, begins_split}
 use Rattle.c_lexer.proofs.NumberLemmas.{number_found, number_again}
 use Rattle.c_lexer.proofs.QuoteLemmas.{IsQuoted, IsUnquoted, Outcome, quoted_found, quoted_again, unquoted_again}
-use Rattle.c_lexer.proofs.SpaceLemmas.{IsEnd, HasNoEnd, EndOutcome, end_found, end_again, no_end_again, DirectiveOutcome, directive_found, directive_again}
+use Rattle.c_lexer.proofs.SpaceLemmas.{EndOutcome, end_found, end_again, no_end_again, DirectiveOutcome, directive_found, directive_again}
 
 found : Option Token → ℕ → Result Found Fault
 found o n = Ok (o, n)

@@ -1,14 +1,14 @@
 -- The elements between quotes are what is read as them.
-use Rattle.std.proofs.Common.{◌≡◌, ◌≢◌, ◌⊎◌, inl, inr, ℕ, zero, suc, ◌+◌, ◌-◌, ◌<◌, ◌≤◌, eqb, ltb, Bool, true, false, ◌&&◌, ◌||◌, cond, List, [], ◌∷◌, ◌++◌, length, take, drop, Option, Some, None, Result, Ok, Err, refl, sym, ap, subst, ◌∙◌, append_assoc, append-nil, length-append, length-drop, length-take, take-append-drop, take-take, take_at, drop_at, arith, eqb-true, eq-eqb, ne_eqb}
-use Rattle.std.proofs.lemmas.Bool.{false≢true, eqb-false, cases_lt}
+use Rattle.std.proofs.Common.{◌≡◌, ◌≢◌, ◌⊎◌, inl, inr, ℕ, zero, suc, ◌+◌, ◌-◌, ◌<◌, ◌≤◌, eqb, Bool, true, false, ◌||◌, cond, List, [], ◌∷◌, ◌++◌, length, take, drop, Option, Some, None, Result, Ok, Err, refl, sym, ap, subst, ◌∙◌, append_assoc, append-nil, length-append, length-take, take-append-drop, take-take, take_at, arith, eqb-true, eq-eqb, ne_eqb}
+use Rattle.std.proofs.lemmas.Bool.{eqb-false, cases_lt}
 use Rattle.std.proofs.lemmas.Bool.Decides.{nat_tests}
 use Rattle.std.proofs.lemmas.List.{drop-take}
 use Rattle.c_lexer.specs.declared.bytes.Class.TheVariants as class
 use Rattle.c_lexer.specs.declared.fault.Fault.{Fault}
 use Rattle.c_lexer.specs.declared.fault.Fault.TheVariants as faults
-use Rattle.c_lexer.specs.Bytes.{is_digit, is_digit_of, digit_value, IsRun, IsRunOf}
-use Rattle.c_lexer.specs.Numbers.{value_behind, value_of, AreDigits}
-use Rattle.c_lexer.specs.Pieces.{Items, done, more, IsSimple, IsEscape, simple, three, fewer, hexadecimal, IsElement, plain, escape, EndsLine, end_of_text, end_of_line, escaped_text, escaped_line, IsBadEscape, bad, IsQuote}
+use Rattle.c_lexer.specs.Bytes.{is_digit, is_digit_of, digit_value, IsRun}
+use Rattle.c_lexer.specs.Numbers.{value_of, AreDigits}
+use Rattle.c_lexer.specs.Pieces.{Items, IsSimple, IsEscape, simple, three, fewer, hexadecimal, IsElement, plain, escape, EndsLine, end_of_text, end_of_line, escaped_text, escaped_line, IsBadEscape, bad, IsQuote}
 use Rattle.c_lexer.specs.Reading.{continues, run_behind, run_len, value_below, simple_value, Step, element_or_fault, digits_at, escape_at, element_at, item_of, items_from, elements, closed, quoted_at}
 use Rattle.c_lexer.proofs.RunLemmas.{run_found, run_again, run_within}
 use Rattle.c_lexer.proofs.NumberLemmas.{value_found, value_again}

@@ -1,14 +1,12 @@
 -- The exits of the loop over a text.
-use Rattle.std.proofs.Common.{◌≡◌, ℕ, ◌+◌, ◌<◌, ◌≤◌, List, length, Result, Ok, Err, refl, sym, subst}
-use Rattle.c_lexer.specs.declared.fault.Fault.{Fault}
+use Rattle.std.proofs.Common.{ℕ, ◌<◌, ◌≤◌, List, length, Result, Ok, Err, sym, subst}
 use Rattle.c_lexer.specs.declared.fault.LexError.{LexError}
 use Rattle.c_lexer.specs.declared.fault.LexError.TheVariants as errors
 use Rattle.c_lexer.specs.declared.token.Token as rust
-use Rattle.c_lexer.specs.Refusals.{refusal}
-use Rattle.c_lexer.specs.Reading.{Found, piece_at}
+use Rattle.c_lexer.specs.Reading.{piece_at}
 use Rattle.c_lexer.specs.Gives.{GivesOn}
 use Rattle.c_lexer.specs.Text.{Lexeme, Lexes}
-use Rattle.c_lexer.specs.Views.{lexemes, IsReading, IsRefusal, Answers}
+use Rattle.c_lexer.specs.Views.{lexemes, IsReading, Answers}
 use Rattle.c_lexer.proofs.TextLemmas.{IsBegun, fails, same_reading}
 
 -- what a fault in front of the rest answers

@@ -1,17 +1,14 @@
 -- Comments and directives are what is read as them.
-use Rattle.std.proofs.Common.{◌≡◌, ◌≢◌, ◌⊎◌, inl, inr, ℕ, zero, suc, ◌+◌, ◌-◌, ◌<◌, ◌≤◌, eqb, Bool, true, false, not, ◌&&◌, cond, List, [], ◌∷◌, ◌++◌, length, take, drop, get_or, Option, Some, None, Result, Ok, Err, refl, sym, ap, subst, ◌∙◌, append_assoc, append-nil, length-append, length-drop, length-take, take-append-drop, take_at, drop_at, drop-drop, arith, eqb-true, eq-eqb, ne_eqb, codes}
-use Rattle.std.proofs.lemmas.Bool.{false≢true, eqb-false, and_parts, cases_lt}
-use Rattle.std.proofs.lemmas.Bool.Decides.{nat_tests}
-use Rattle.std.proofs.lemmas.List.{append_cancel_left}
-use Rattle.c_tree.specs.Tokens.{Token}
+use Rattle.std.proofs.Common.{◌≡◌, ℕ, ◌+◌, ◌-◌, ◌≤◌, eqb, Bool, true, false, ◌&&◌, cond, List, [], ◌∷◌, ◌++◌, length, take, drop, get_or, Option, Some, None, Result, Ok, Err, refl, sym, ap, ◌∙◌, append_assoc, length-append, take-append-drop, drop_at, arith, eqb-true, codes}
+use Rattle.std.proofs.lemmas.Bool.{false≢true, and_parts}
 use Rattle.c_lexer.specs.declared.bytes.Class.TheVariants as class
 use Rattle.c_lexer.specs.declared.fault.Fault.{Fault}
 use Rattle.c_lexer.specs.declared.fault.Fault.TheVariants as faults
-use Rattle.c_lexer.specs.Bytes.{is_gap, IsRun, IsRunOf}
-use Rattle.c_lexer.specs.Pieces.{IsRow, here, there, begins, IsNextEnd, IsComment, block, line, AllIn, IsHeader, stdio, stdlib, string, IsDirective, include}
-use Rattle.c_lexer.specs.Reading.{continues, run_behind, run_len, first_row, Found, headers, one_more, comment_end, comment_or_fault, block_comment_at, past_gaps, row_len, header_len, directive_or_fault, header_at, directive_at}
-use Rattle.c_lexer.proofs.RunLemmas.{run_found, run_again, run_within}
-use Rattle.c_lexer.proofs.TableLemmas.{row_found, no_row, no_row_again, Each, at_row, begins_split, begins_append}
+use Rattle.c_lexer.specs.Bytes.{is_gap, IsRun}
+use Rattle.c_lexer.specs.Pieces.{IsRow, here, there, begins, IsNextEnd, AllIn, IsHeader, stdio, stdlib, string, IsDirective, include}
+use Rattle.c_lexer.specs.Reading.{run_behind, run_len, first_row, Found, headers, one_more, comment_end, past_gaps, row_len, header_len, directive_or_fault, header_at, directive_at}
+use Rattle.c_lexer.proofs.RunLemmas.{run_found, run_again}
+use Rattle.c_lexer.proofs.TableLemmas.{row_found, Each, at_row, begins_split}
 
 -- ---- block comments
 

@@ -1,5 +1,5 @@
 -- The reading of a text: what the loop keeps, and that there is one.
-use Rattle.std.proofs.Common.{◌≡◌, ◌⊎◌, inl, inr, ℕ, zero, suc, ◌+◌, ◌-◌, ◌<◌, ◌≤◌, eqb, ltb, Bool, true, false, cond, List, [], ◌∷◌, ◌++◌, length, take, drop, Option, Some, None, Result, Ok, Err, refl, sym, ap, subst, ◌∙◌, append_assoc, append-nil, length-append, length-take, take-append-drop, take_at, drop_at, drop-drop, arith, ltb-true, lt-ltb, le-ltb}
+use Rattle.std.proofs.Common.{◌≡◌, ◌⊎◌, inl, inr, ℕ, suc, ◌+◌, ◌-◌, ◌<◌, ◌≤◌, eqb, ltb, Bool, true, false, cond, List, [], ◌∷◌, ◌++◌, length, take, drop, Option, Some, None, Result, Ok, Err, refl, sym, ap, subst, ◌∙◌, append_assoc, append-nil, length-append, length-take, take-append-drop, take_at, drop_at, arith, lt-ltb, le-ltb}
 use Rattle.std.proofs.lemmas.Bool.{cases_lt}
 use Rattle.c_tree.specs.Tokens.{Token}
 use Rattle.c_lexer.specs.declared.fault.Fault.{Fault}
@@ -7,7 +7,7 @@ use Rattle.c_lexer.specs.declared.fault.LexError.{LexError}
 use Rattle.c_lexer.specs.declared.fault.LexError.TheVariants.{TooLong}
 use Rattle.c_lexer.specs.Bytes.{line_feeds}
 use Rattle.c_lexer.specs.Refusals.{refusal}
-use Rattle.c_lexer.specs.Pieces.{Items, done, more, IsPiece, IsFaulty}
+use Rattle.c_lexer.specs.Pieces.{done, more, IsPiece, IsFaulty}
 use Rattle.c_lexer.specs.Reading.{Found, piece_at, items_from}
 use Rattle.c_lexer.specs.Text.{Lexeme, Piece, Stands, lexemes_of, tokens_of, IsCut, Lexes, too_long, whole, faulty, HasOneReading, AreSlices, HasSlices}
 use Rattle.c_lexer.proofs.ItemsLemmas.{IsRead, AreFound, items_again, items_found, items_push}

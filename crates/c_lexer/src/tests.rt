@@ -113,6 +113,7 @@ const LAST: [(&[u8], Seen<'static>, u32, u32, u32, usize); 40] = [
 #[test]
 fn tokens(rt: HostRuntime) -> Result<(), Fail> {
     for (text, kind, start, len, line, count) in LAST {
+        assert!(rt; text.len() < 100);
         let tokens = lex(rt.alloc(), text)?;
         assert_eq!(rt; tokens.len(), count, "{}", text.len());
         match tokens.as_slice().last() {
@@ -188,6 +189,7 @@ const REFUSED: [(&[u8], LexError); 48] = [
 #[test]
 fn refusals(rt: HostRuntime) -> Result<(), Fail> {
     for (text, refusal) in REFUSED {
+        assert!(rt; text.len() < 100);
         assert_eq!(rt; lex(rt.alloc(), text).err(), Some(refusal));
     }
     let mut long = vec![in rt.alloc(); b' '; 1_048_576]?;

@@ -1,4 +1,3 @@
-use Rattle.std.proofs.Common.{◌≡◌, length, arith}
 use Rattle.c_lexer.specs.Text.{too_long}
 use Rattle.c_lexer.proofs.ReadLemmas.{answers}
 use Rattle.c_lexer.proofs.text.lex.Goals as goal

@@ -1,4 +1,4 @@
-use Rattle.std.proofs.Common.{◌≡◌, sym, ap, ◌∙◌}
+use Rattle.std.proofs.Common.{sym, ap, ◌∙◌}
 use Rattle.c_tree.specs.Tokens.{Token}
 use Rattle.c_lexer.specs.Words.{reserved_words}
 use Rattle.c_lexer.specs.Reading.{identifier}

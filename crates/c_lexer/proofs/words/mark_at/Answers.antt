@@ -1,7 +1,6 @@
-use Rattle.std.proofs.Common.{◌≡◌, sym, ◌∙◌}
+use Rattle.std.proofs.Common.{sym}
 use Rattle.c_lexer.specs.Words.{punctuators}
-use Rattle.c_lexer.specs.Pieces.{begins}
-use Rattle.c_lexer.specs.Reading.{mark_at, first_row}
+use Rattle.c_lexer.specs.Reading.{mark_at}
 use Rattle.c_lexer.proofs.TableLemmas.{at_mark}
 use Rattle.c_lexer.proofs.words.mark_at.Goals as goal
 
