@@ -19,7 +19,8 @@ AreDigits radix (d ∷ ds) = (is_digit_of radix d ≡ true) × AreDigits radix d
 pub data IsInteger : List ℕ → ℕ → List ℕ → Type 0 where
   decimal : (d : ℕ) (ds : List ℕ) → is_digit d ≡ true → d ≢ 48 → AreDigits 10 ds → IsInteger (d ∷ ds) 10 (d ∷ ds)
   octal : (ds : List ℕ) → AreDigits 8 ds → IsInteger (48 ∷ ds) 8 ds
-  hexadecimal : (x d : ℕ) (ds : List ℕ) → is_hex_mark x ≡ true → AreDigits 16 (d ∷ ds) → IsInteger (48 ∷ x ∷ d ∷ ds) 16 (d ∷ ds)
+  hexadecimal : (x d : ℕ) (ds : List ℕ) → is_hex_mark x ≡ true → AreDigits 16 (d ∷ ds)
+      → IsInteger (48 ∷ x ∷ d ∷ ds) 16 (d ∷ ds)
 
 -- A constant has a value, and is unsigned or not: with a suffix it is unsigned; without one it is an int if that holds
 -- the value, and otherwise unsigned unless it is decimal.

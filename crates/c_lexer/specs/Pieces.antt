@@ -1,4 +1,5 @@
 -- What the text is made of: tokens, and the blanks, comments and directives between them (C11 6.4).
+-- The bytes that are written as numbers: a line feed is 10, `"` 34, `#` 35, `'` 39, `*` 42, `/` 47, a backslash 92, `x` 120.
 use Rattle.std.specs.Prelude.{◌≡◌, ◌≢◌, ◌⊎◌, ℕ, not, ◌<◌, ◌≤◌, Bool, true, false, ◌||◌, ◌&&◌, ◌==◌, List, [], ◌∷◌, ◌++◌, length, Option, Some, None, codes}
 use Rattle.c_tree.specs.declared.words.Punctuator.{Punctuator}
 use Rattle.c_tree.specs.declared.words.Reserved.{Reserved}
@@ -26,7 +27,8 @@ begins (s ∷ spelling) (b ∷ text) = (s == b) && begins spelling text
 pub record IsLongest (spelling : List ℕ) (mark : Punctuator) (text : List ℕ) : Type 0 where
   pub is_punctuator : IsRow spelling mark punctuators
   pub at_front : begins spelling text ≡ true
-  pub longest : (other : List ℕ) (mark : Punctuator) → IsRow other mark punctuators → begins other text ≡ true → length other ≤ length spelling
+  pub longest : (other : List ℕ) (mark : Punctuator) → IsRow other mark punctuators → begins other text ≡ true
+      → length other ≤ length spelling
 
 -- no punctuator is in front of the text
 abbrev pub HasNoMark : List ℕ → Type 0
@@ -43,7 +45,8 @@ pub data IsIdentifier (spelling : List ℕ) : Token → Type 0 where
 -- text after it and its value.
 pub data Items {X : Type 0} (IsItem : List ℕ → List ℕ → X → Type 0) (rest : List ℕ) : List ℕ → List X → Type 0 where
   done : Items IsItem rest [] []
-  more : (s spelling : List ℕ) (x : X) (xs : List X) → IsItem s (spelling ++ rest) x → Items IsItem rest spelling xs → Items IsItem rest (s ++ spelling) (x ∷ xs)
+  more : (s spelling : List ℕ) (x : X) (xs : List X) → IsItem s (spelling ++ rest) x → Items IsItem rest spelling xs
+      → Items IsItem rest (s ++ spelling) (x ∷ xs)
 
 -- ---- character constants and string literals (C11 6.4.4.4, 6.4.5)
 
@@ -65,11 +68,14 @@ pub data IsSimple : ℕ → ℕ → Type 0 where
 pub data IsEscape : List ℕ → List ℕ → ℕ → Type 0 where
   simple : (c : ℕ) (rest : List ℕ) (value : ℕ) → IsSimple c value → IsEscape (c ∷ []) rest value
   -- three octal digits
-  three : (a b c : ℕ) (rest : List ℕ) (value : ℕ) → AreDigits 8 (a ∷ b ∷ c ∷ []) → value ≡ value_of 8 (a ∷ b ∷ c ∷ []) → value < 256 → IsEscape (a ∷ b ∷ c ∷ []) rest value
+  three : (a b c : ℕ) (rest : List ℕ) (value : ℕ) → AreDigits 8 (a ∷ b ∷ c ∷ []) → value ≡ value_of 8 (a ∷ b ∷ c ∷ [])
+      → value < 256 → IsEscape (a ∷ b ∷ c ∷ []) rest value
   -- fewer of them, where no other one follows
-  fewer : (d : ℕ) (ds rest : List ℕ) (value : ℕ) → length ds < 2 → IsRunOf (is_digit_of 8) (d ∷ ds) rest → value ≡ value_of 8 (d ∷ ds) → value < 256 → IsEscape (d ∷ ds) rest value
+  fewer : (d : ℕ) (ds rest : List ℕ) (value : ℕ) → length ds < 2 → IsRunOf (is_digit_of 8) (d ∷ ds) rest
+      → value ≡ value_of 8 (d ∷ ds) → value < 256 → IsEscape (d ∷ ds) rest value
   -- all hexadecimal digits that follow, at least one
-  hexadecimal : (d : ℕ) (ds rest : List ℕ) (value : ℕ) → IsRunOf (is_digit_of 16) (d ∷ ds) rest → value ≡ value_of 16 (d ∷ ds) → value < 256 → IsEscape (120 ∷ d ∷ ds) rest value
+  hexadecimal : (d : ℕ) (ds rest : List ℕ) (value : ℕ) → IsRunOf (is_digit_of 16) (d ∷ ds) rest
+      → value ≡ value_of 16 (d ∷ ds) → value < 256 → IsEscape (120 ∷ d ∷ ds) rest value
 
 -- an element between two quotes, in front of the rest, and its value
 pub data IsElement (quote : ℕ) : List ℕ → List ℕ → ℕ → Type 0 where
@@ -85,7 +91,9 @@ pub data EndsLine : List ℕ → Type 0 where
 
 -- no escape stands behind the backslash, which does not end the line
 pub data IsBadEscape : List ℕ → Type 0 where
-  bad : (c : ℕ) (rest : List ℕ) → c ≢ 10 → ((s after : List ℕ) (value : ℕ) → c ∷ rest ≡ s ++ after → IsEscape s after value → ⊥) → IsBadEscape (92 ∷ c ∷ rest)
+  bad : (c : ℕ) (rest : List ℕ) → c ≢ 10
+      → ((s after : List ℕ) (value : ℕ) → c ∷ rest ≡ s ++ after → IsEscape s after value → ⊥)
+      → IsBadEscape (92 ∷ c ∷ rest)
 
 -- ---- comments and directives
 
@@ -116,7 +124,8 @@ pub data IsHeader : List ℕ → Type 0 where
 
 -- `#`, `include` and a header, with spaces and tabs between them (C11 6.10.2)
 pub data IsDirective : List ℕ → Type 0 where
-  include : (before between header : List ℕ) → AllIn is_gap before → AllIn is_gap between → IsHeader header → IsDirective (35 ∷ (before ++ codes "include" ++ between ++ header))
+  include : (before between header : List ℕ) → AllIn is_gap before → AllIn is_gap between → IsHeader header
+      → IsDirective (35 ∷ (before ++ codes "include" ++ between ++ header))
 
 -- ---- pieces
 
@@ -133,25 +142,37 @@ pub data IsPiece : List ℕ → List ℕ → Option Token → Type 0 where
   comment : (s rest : List ℕ) → IsComment s rest → IsPiece s rest None
   directive : (s rest : List ℕ) → IsDirective s → IsPiece s rest None
   -- a letter and all letters and digits that follow
-  identifier : (b : ℕ) (s rest : List ℕ) (t : Token) → is_letter b ≡ true → IsRun (λ _ c. is_word c) b s rest → IsIdentifier (b ∷ s) t → IsPiece (b ∷ s) rest (Some t)
+  identifier : (b : ℕ) (s rest : List ℕ) (t : Token) → is_letter b ≡ true → IsRun (λ _ c. is_word c) b s rest
+      → IsIdentifier (b ∷ s) t → IsPiece (b ∷ s) rest (Some t)
   -- a digit and all that a number goes on with, which is a constant as a whole
-  number : (b : ℕ) (s rest : List ℕ) (value : ℕ) (is_unsigned : Bool) → is_digit b ≡ true → IsRun continues_number b s rest → IsNumber (b ∷ s) value is_unsigned → IsPiece (b ∷ s) rest (Some (Token.Number value is_unsigned))
+  number : (b : ℕ) (s rest : List ℕ) (value : ℕ) (is_unsigned : Bool) → is_digit b ≡ true
+      → IsRun continues_number b s rest → IsNumber (b ∷ s) value is_unsigned
+      → IsPiece (b ∷ s) rest (Some (Token.Number value is_unsigned))
   -- one element between single quotes
-  character : (s rest : List ℕ) (value : ℕ) → Items (IsElement 39) (39 ∷ rest) s (value ∷ []) → IsPiece (39 ∷ (s ++ 39 ∷ [])) rest (Some (Token.Character value))
+  character : (s rest : List ℕ) (value : ℕ) → Items (IsElement 39) (39 ∷ rest) s (value ∷ [])
+      → IsPiece (39 ∷ (s ++ 39 ∷ [])) rest (Some (Token.Character value))
   -- elements between double quotes
-  text : (s rest values : List ℕ) → Items (IsElement 34) (34 ∷ rest) s values → IsPiece (34 ∷ (s ++ 34 ∷ [])) rest (Some (Token.Text values))
+  text : (s rest values : List ℕ) → Items (IsElement 34) (34 ∷ rest) s values
+      → IsPiece (34 ∷ (s ++ 34 ∷ [])) rest (Some (Token.Text values))
   -- the longest punctuator, where no comment begins
-  mark : (s rest : List ℕ) (m : Punctuator) → IsLongest s m (s ++ rest) → BeginsNoComment (s ++ rest) → IsPiece s rest (Some (Token.Mark m))
+  mark : (s rest : List ℕ) (m : Punctuator) → IsLongest s m (s ++ rest) → BeginsNoComment (s ++ rest)
+      → IsPiece s rest (Some (Token.Mark m))
 
 -- why no piece is in front of the text
 pub data IsFaulty : List ℕ → Fault → Type 0 where
   -- the byte begins nothing
   byte : (b : ℕ) (rest : List ℕ) → begins_piece b ≡ false → HasNoMark (b ∷ rest) → IsFaulty (b ∷ rest) faults.BadByte
   -- the whole that a number would be is no constant
-  number : (b : ℕ) (s rest : List ℕ) → is_digit b ≡ true → IsRun continues_number b s rest → ((value : ℕ) (is_unsigned : Bool) → IsNumber (b ∷ s) value is_unsigned → ⊥) → IsFaulty (b ∷ (s ++ rest)) faults.BadNumber
-  escape : (quote : ℕ) (s rest values : List ℕ) → IsQuote quote → Items (IsElement quote) rest s values → IsBadEscape rest → IsFaulty (quote ∷ (s ++ rest)) faults.BadEscape
+  number : (b : ℕ) (s rest : List ℕ) → is_digit b ≡ true → IsRun continues_number b s rest
+      → ((value : ℕ) (is_unsigned : Bool) → IsNumber (b ∷ s) value is_unsigned → ⊥)
+      → IsFaulty (b ∷ (s ++ rest)) faults.BadNumber
+  escape : (quote : ℕ) (s rest values : List ℕ) → IsQuote quote → Items (IsElement quote) rest s values
+      → IsBadEscape rest → IsFaulty (quote ∷ (s ++ rest)) faults.BadEscape
   -- a character constant that is closed has not one element
-  count : (s rest values : List ℕ) → Items (IsElement 39) (39 ∷ rest) s values → length values ≢ 1 → IsFaulty (39 ∷ (s ++ 39 ∷ rest)) faults.BadEscape
-  quote : (quote : ℕ) (s rest values : List ℕ) → IsQuote quote → Items (IsElement quote) rest s values → EndsLine rest → IsFaulty (quote ∷ (s ++ rest)) faults.Unclosed
+  count : (s rest values : List ℕ) → Items (IsElement 39) (39 ∷ rest) s values → length values ≢ 1
+      → IsFaulty (39 ∷ (s ++ 39 ∷ rest)) faults.BadEscape
+  quote : (quote : ℕ) (s rest values : List ℕ) → IsQuote quote → Items (IsElement quote) rest s values → EndsLine rest
+      → IsFaulty (quote ∷ (s ++ rest)) faults.Unclosed
   comment : (rest : List ℕ) → ((a b : List ℕ) → rest ≡ a ++ 42 ∷ 47 ∷ b → ⊥) → IsFaulty (47 ∷ 42 ∷ rest) faults.Unclosed
-  directive : (rest : List ℕ) → ((s after : List ℕ) → 35 ∷ rest ≡ s ++ after → IsDirective s → ⊥) → IsFaulty (35 ∷ rest) faults.BadDirective
+  directive : (rest : List ℕ) → ((s after : List ℕ) → 35 ∷ rest ≡ s ++ after → IsDirective s → ⊥)
+      → IsFaulty (35 ∷ rest) faults.BadDirective

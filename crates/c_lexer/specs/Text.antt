@@ -41,8 +41,11 @@ IsCut text rest pieces = Items Stands rest text pieces
 -- first place where no piece stands, with its line. A longer text is refused for its length.
 pub data Lexes : List ℕ → Result (List Lexeme) LexError → Type 0 where
   too_long : (text : List ℕ) → 1048576 < length text → Lexes text (Err (TooLong (length text)))
-  whole : (text : List ℕ) (pieces : List Piece) → length text ≤ 1048576 → IsCut text [] pieces → Lexes text (Ok (tokens_of 0 1 pieces))
-  faulty : (text front rest : List ℕ) (pieces : List Piece) (fault : Fault) → length text ≤ 1048576 → text ≡ front ++ rest → IsCut front rest pieces → IsFaulty rest fault → Lexes text (Err (refusal fault (1 + line_feeds front)))
+  whole : (text : List ℕ) (pieces : List Piece) → length text ≤ 1048576 → IsCut text [] pieces
+      → Lexes text (Ok (tokens_of 0 1 pieces))
+  faulty : (text front rest : List ℕ) (pieces : List Piece) (fault : Fault) → length text ≤ 1048576
+      → text ≡ front ++ rest → IsCut front rest pieces → IsFaulty rest fault
+      → Lexes text (Err (refusal fault (1 + line_feeds front)))
 
 -- a text has one reading
 abbrev pub HasOneReading : Type 0
