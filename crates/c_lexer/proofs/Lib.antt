@@ -1,0 +1,10 @@
+pub mod RunLemmas
+pub mod TableLemmas
+pub mod NumberLemmas
+pub mod ItemsLemmas
+pub mod QuoteLemmas
+pub mod SpaceLemmas
+pub mod PieceLemmas
+pub mod TextLemmas
+pub mod ReadLemmas
+pub mod PlacedLemmas

@@ -1,0 +1,9 @@
+pub mod Bytes
+pub mod Words
+pub mod Numbers
+pub mod Pieces
+pub mod Refusals
+pub mod Text
+pub mod Views
+pub mod Reading
+pub mod Gives
