@@ -1,17 +1,17 @@
 -- From the run of an image to the answer of its text, and from a text to its file.
-use Rattle.std.proofs.Common.{◌≡◌, ◌≢◌, ℕ, ◌+◌, ◌-◌, ◌*◌, ◌%◌, ◌<◌, ◌≤◌, Bool, true, false, nat_eq, List, [], ◌∷◌, ◌++◌, length, get_or, Option, Some, None, refl, sym, ap, subst, ◌∙◌, arith, lit≤, lit<}
-use Rattle.std.specs.Prelude.{IsSome, is_some, All, Ok, Err}
+use Rattle.std.proofs.Common.{◌≡◌, ◌≢◌, ℕ, ◌+◌, ◌*◌, ◌%◌, ◌≤◌, nat_eq, List, [], ◌∷◌, ◌++◌, length, Option, Some, None, refl, sym, ap, subst, ◌∙◌, arith, lit≤}
+use Rattle.std.specs.Prelude.{IsSome, is_some, Ok}
 use Rattle.std.specs.List.{AllByRecursion}
 use Rattle.std.proofs.lemmas.List.Elements.{recursion_from_All}
 use Rattle.std.proofs.lemmas.Bool.{false≢true}
 use Rattle.rv_image.specs.declared.image.Image.{Image}
-use Rattle.rv_image.specs.Rules.{IsImage, AreFrames, count_of, total_size, Decline, EndsNonzero}
+use Rattle.rv_image.specs.Rules.{IsImage}
 use Rattle.rv_machine.specs.declared.stop.Halt.{Halt}
 use Rattle.rv_machine.specs.declared.stop.Halt.TheVariants as halt
 use Rattle.rv_machine.specs.declared.stop.Stop.{Stop}
 use Rattle.rv_machine.specs.declared.stop.Stop.TheVariants as stop
 use Rattle.rv_machine.specs.State.{State}
-use Rattle.rv_machine.specs.Environment.{World, Tell}
+use Rattle.rv_machine.specs.Environment.{World}
 use Rattle.rv_machine.specs.Machine.{steps, machine_after, IsBeforeCall}
 use Rattle.rv_machine.specs.Start.{start}
 use Rattle.rv_machine.specs.Runs.{Ran, Shown, Stops}
@@ -19,15 +19,12 @@ use Rattle.rv_machine.proofs.Steps.{steps_stay}
 use Rattle.baggy_tool.specs.declared.form.Summand.{Summand}
 use Rattle.baggy_tool.specs.declared.ending.Ending.{Ending}
 use Rattle.baggy_tool.specs.declared.ending.Ending.TheVariants as ending
-use Rattle.baggy_tool.specs.declared.ending.Refusal.TheVariants.{Source, NotBuilt}
-use Rattle.baggy_tool.specs.declared.ending.CompileError.TheVariants.{Lex, Memory}
-use Rattle.baggy_tool.specs.declared.ending.LexError.TheVariants.{TooLong}
 use Rattle.baggy_tool.specs.Building.{Builds}
-use Rattle.baggy_tool.specs.Calls.{Seen, Noting, shown, numbers_of, ExitsWithSum, IsImageOf, RanTo, AnswersText, AnswersFile, Answers, AnswersWords, RunsImage, Notes}
+use Rattle.baggy_tool.specs.Calls.{Seen, Noting, shown, numbers_of, ExitsWithSum, IsImageOf, AnswersText, Answers, AnswersWords, RunsImage, Notes}
 use Rattle.baggy_tool.specs.Code.{IsCompiled}
 use Rattle.baggy_tool.specs.Endings.{ending_of, line_of}
 use Rattle.baggy_tool.specs.Files.{IsFile}
-use Rattle.baggy_tool.specs.Form.{Sum, IsForm, HasSummands, summands_of, sum_from, value_of}
+use Rattle.baggy_tool.specs.Form.{Sum, HasSummands, value_of}
 use Rattle.baggy_tool.specs.Notes.{IsAppended}
 use Rattle.baggy_tool.specs.Words.{Request}
 use Rattle.baggy_tool.proofs.FormLemmas.{found_small, found_count, found_sum}

@@ -1,6 +1,6 @@
 -- The text that was read so far is the file's front.
 use Rattle.std.proofs.Common.{◌≡◌, ℕ, ◌+◌, ◌≤◌, List, [], ◌++◌, length, take, drop, refl, sym, ap, subst, ◌∙◌, arith, take-add}
-use Rattle.std.specs.Prelude.{Vec, Result, Ok, Err}
+use Rattle.std.specs.Prelude.{Result, Ok, Err}
 use Rattle.std.proofs.lemmas.Grind.{common_steps}
 use Rattle.bb_outside.specs.Files.{Told, Untold, Missing, Holds, Stays}
 use Rattle.baggy_tool.specs.declared.reader.ReadError.{ReadError}

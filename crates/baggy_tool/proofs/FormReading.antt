@@ -1,13 +1,12 @@
 -- What the reader's contracts need.
-use Rattle.std.proofs.Common.{◌≡◌, ℕ, suc, ◌+◌, ◌-◌, ◌*◌, ◌<◌, ◌≤◌, Bool, true, false, not, cond, nat_eq, List, [], ◌∷◌, ◌++◌, length, get_or, take, drop, reverse, Option, Some, None, refl, sym, ap, ◌∙◌, arith, add-one, drop-cons, option_to_list, is_some, append-nil, Bor}
+use Rattle.std.proofs.Common.{◌≡◌, ℕ, suc, ◌+◌, ◌-◌, ◌<◌, ◌≤◌, Bool, true, false, not, cond, nat_eq, List, [], ◌∷◌, ◌++◌, length, take, drop, reverse, Option, Some, None, refl, sym, ap, ◌∙◌, arith, option_to_list, is_some, append-nil, Bor}
 use Rattle.std.specs.Prelude.{codes, MatchOption, ◌&&◌}
 use Rattle.std.specs.Option.{option_copied}
 use Rattle.std.specs.Bool.{beq}
 use Rattle.std.specs.Cmp.Lexicographic.{pointwise}
-use Rattle.std.proofs.lemmas.Bool.Decides.{nat_tests}
 use Rattle.std.proofs.lemmas.List.{reverse-append, length-reverse}
 use Rattle.baggy_tool.specs.declared.form.Summand.{Summand}
-use Rattle.baggy_tool.specs.Form.{number_from, signs_product, head_words, HasNoForm}
+use Rattle.baggy_tool.specs.Form.{signs_product, head_words, HasNoForm}
 use Rattle.baggy_tool.specs.Reading.{◌>>=◌, without_blanks, strip, ended, word_at, words_at, is_tail, form_at, number_at, sign_at, innermost, closed, with_front, end_at, more_at, signed, terms_at}
 use Rattle.baggy_tool.proofs.FormLemmas.{form_none}
 use Rattle.baggy_tool.proofs.FormSteps.{behind_at, front_append, closed_more, terms_full, terms_open, terms_number, terms_none}

@@ -1,5 +1,5 @@
 -- The machine on the words of a sum.
-use Rattle.std.proofs.Common.{◌≡◌, ◌≢◌, ℕ, zero, suc, ◌+◌, ◌-◌, ◌*◌, ◌/◌, ◌%◌, ◌^◌, ◌<◌, ◌≤◌, Bool, true, false, cond, ltb, leb, List, [], ◌∷◌, ◌++◌, length, get_or, set, Option, Some, None, refl, sym, ap, subst, ◌∙◌, arith, lit<, lit≤, get_or-set_other, get_or-set_same, length-set}
+use Rattle.std.proofs.Common.{◌≡◌, ◌≢◌, ℕ, ◌+◌, ◌-◌, ◌*◌, ◌/◌, ◌%◌, ◌^◌, ◌<◌, ◌≤◌, Bool, true, false, cond, ltb, leb, List, [], ◌∷◌, ◌++◌, length, get_or, set, Option, Some, None, refl, sym, ap, subst, ◌∙◌, arith, lit<, lit≤, get_or-set_other, get_or-set_same, length-set}
 use Rattle.std.specs.Prelude.{replicate, IsSome, is_some}
 use Rattle.std.proofs.lemmas.Bool.Decides.{nat_tests}
 use Rattle.std.proofs.lemmas.List.{length-replicate}
@@ -14,7 +14,7 @@ use Rattle.rv_machine.specs.Environment.{World, Tell, calls}
 use Rattle.rv_machine.specs.Machine.{step, steps, machine_after, IsBeforeCall}
 use Rattle.rv_machine.specs.Start.{start, start_memory, start_registers}
 use Rattle.rv_machine.proofs.Steps.{steps_none, steps_add, steps_stay, step_acts}
-use Rattle.rv_machine.proofs.Programs.{Has, AreWords, words_stand, IsInText, extended, lui_goes, addi_goes, add_goes, sub_goes, ecall_asks}
+use Rattle.rv_machine.proofs.Programs.{Has, AreWords, words_stand, extended, lui_goes, addi_goes, add_goes, sub_goes, ecall_asks}
 use Rattle.baggy_tool.specs.declared.form.Summand.{Summand}
 use Rattle.baggy_tool.specs.Form.{with_summand, sum_from}
 use Rattle.baggy_tool.specs.Code.{summand_words, sum_words, exit_words, IsCompiled}

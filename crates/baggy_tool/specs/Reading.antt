@@ -4,7 +4,7 @@ use Rattle.std.specs.Char.{is_ascii_digit, is_ascii_alphanumeric}
 use Rattle.std.specs.List.{list_all}
 use Rattle.baggy_tool.specs.declared.form.Summand.{Summand}
 use Rattle.baggy_tool.specs.Decimal.{number_within}
-use Rattle.baggy_tool.specs.Form.{is_blank, begins, number_of, is_canonical, signs_product, head_words, tail_words}
+use Rattle.baggy_tool.specs.Form.{is_blank, begins, is_canonical, signs_product, head_words, tail_words}
 
 infixl 10 ◌>>=◌
 abbrev pub ◌>>=◌ : {A B : Type 0} → Option A → (A → Option B) → Option B

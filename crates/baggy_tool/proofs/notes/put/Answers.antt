@@ -1,4 +1,4 @@
-use Rattle.std.proofs.Common.{◌≡◌, arith}
+use Rattle.std.proofs.Common.{arith}
 use Rattle.baggy_tool.proofs.Noting.{partly_none, partly_more}
 use Rattle.baggy_tool.proofs.notes.put.Goals as goal
 

@@ -1,4 +1,3 @@
-use Rattle.std.proofs.Common.{◌≡◌, ℕ}
 use Rattle.std.proofs.lemmas.Result.{err_from_is_err_and}
 use Rattle.baggy_tool.proofs.Noting.{noted_then, cut_first}
 use Rattle.baggy_tool.proofs.notes.put_both.Goals as goal

@@ -1,4 +1,4 @@
-use Rattle.std.proofs.Common.{◌∙◌, sym}
+use Rattle.std.proofs.Common.{◌∙◌}
 use Rattle.std.proofs.lemmas.Result.{err_from_is_err_and}
 use Rattle.baggy_tool.proofs.Noting.{noted_then, cut_first}
 use Rattle.baggy_tool.proofs.notes.put_numbered.Goals as goal

@@ -1,4 +1,4 @@
-use Rattle.std.proofs.Common.{◌≡◌, refl, ap}
+use Rattle.std.proofs.Common.{refl, ap}
 use Rattle.baggy_tool.specs.declared.run.Outcome.{Outcome}
 use Rattle.baggy_tool.specs.Words.{request}
 use Rattle.baggy_tool.proofs.Answering.{no_request, one_request}

@@ -1,4 +1,4 @@
-use Rattle.std.proofs.Common.{◌≡◌, ℕ, List, subst}
+use Rattle.std.proofs.Common.{ℕ, List, subst}
 use Rattle.baggy_tool.specs.Words.{request}
 use Rattle.baggy_tool.specs.Calls.{Seen, shown, AnswersText}
 use Rattle.baggy_tool.proofs.Answering.{file_answers}
