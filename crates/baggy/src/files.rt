@@ -86,3 +86,28 @@ fn read_at<R: Files>(rt: &R, name: &str, at: u64, into: &mut [u8]) -> Result<usi
     file.seek(SeekFrom::Start(at))?;
     Ok(file.read(into)?)
 }
+
+#[cfg(test)]
+mod tests {
+    use super::*;
+    use std::process;
+    use std::test::Fail;
+
+    #[test]
+    fn reads_what_it_wrote(rt: HostRuntime) -> Result<(), Fail> {
+        let alloc = rt.alloc();
+        let name = format!(in alloc; "/tmp/baggy-shelf-{}", process::id(rt.process()))?;
+        let name = name.as_str();
+        let mut shelf = DirShelf::new(&rt);
+        let mut piece = [0u8; 4];
+        assert_eq!(rt; shelf.read(name, 0, &mut piece), Ok(None));
+        assert_eq!(rt; shelf.write(name, b"abcdef"), Ok(()));
+        assert_eq!(rt; shelf.read(name, 0, &mut piece), Ok(Some(4)));
+        assert_eq!(rt; piece, *b"abcd");
+        assert_eq!(rt; shelf.read(name, 4, &mut piece), Ok(Some(2)));
+        assert_eq!(rt; shelf.read(name, 6, &mut piece), Ok(Some(0)));
+        assert_eq!(rt; shelf.read("/", 0, &mut piece), Err(ShelfFailed::Fault));
+        fs::remove_file(&rt, name)?;
+        Ok(())
+    }
+}

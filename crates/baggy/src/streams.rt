@@ -96,3 +96,23 @@ fn write_now<W: Write>(output: &mut W, piece: &[u8]) -> Option<usize>
         Ok(count) => output.flush().ok().map(|()| count),
     }
 }
+
+#[cfg(test)]
+mod tests {
+    use super::*;
+    use std::test::Fail;
+
+    #[test]
+    fn source_and_sink(rt: HostRuntime) -> Result<(), Fail> {
+        let mut source = StdinSource::new(b"A".as_slice());
+        assert_eq!(rt; source.take(), Ok(Some(65)));
+        assert_eq!(rt; source.take(), Ok(None));
+        assert_eq!(rt; source.take(), Ok(None));
+        let mut sink = StdoutSink::new(Vec::new(rt.alloc()));
+        assert_eq!(rt; sink.put(b""), Ok(0));
+        assert_eq!(rt; sink.put(b"AB"), Ok(2));
+        assert_eq!(rt; sink.put(b"C"), Ok(1));
+        assert_eq!(rt; sink.output.as_slice(), b"ABC".as_slice());
+        Ok(())
+    }
+}
