@@ -22,7 +22,7 @@ pub enum InitialByte {
 }
 
 /// A named global object.
-#[derive(Debug, Drop)]
+#[derive(Drop)]
 pub struct Global {
     pub name: Name,
     pub ty: Ty,
@@ -33,7 +33,7 @@ pub struct Global {
 }
 
 /// A parameter or a local of a function.
-#[derive(Debug, Drop)]
+#[derive(Drop)]
 pub struct Local {
     pub name: Name,
     pub ty: Ty,
@@ -44,7 +44,7 @@ pub struct Local {
 }
 
 /// A function that is defined. The first `params` locals are its parameters.
-#[derive(Debug, Drop)]
+#[derive(Drop)]
 pub struct Function {
     pub name: Name,
     /// The line of its name in the definition.
@@ -57,7 +57,7 @@ pub struct Function {
 
 /// A program whose names are resolved and whose expressions have types. Contracts see it as a `CProgram`, by
 /// `program_of`.
-#[derive(Debug, Drop)]
+#[derive(Drop)]
 pub struct Program {
     pub structs: List<StructType>,
     pub globals: List<Global>,

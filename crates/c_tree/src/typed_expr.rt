@@ -76,7 +76,6 @@ pub enum Conversion {
 
 /// An expression with its type. Contracts see it as a `CExpr`, by `expr_of`.
 #[cycle(typed)]
-#[derive(Debug)]
 pub struct TypedExpr {
     /// The operator, the called name, or the first token of a name, a constant or a string.
     pub at: At,
@@ -86,7 +85,7 @@ pub struct TypedExpr {
 
 /// What an expression is.
 #[cycle(typed)]
-#[derive(Debug, Drop)]
+#[derive(Drop)]
 pub enum TypedForm {
     /// The local of this number in the function's list.
     Local(u32),

@@ -9,7 +9,6 @@ use crate::typed_expr::TypedExpr;
 use std::alloc::{AllocError, Global};
 
 /// What an object is initialized with (C11 6.7.9).
-#[derive(Debug)]
 pub enum TypedInitial {
     /// The value of an expression, given to a scalar; or the struct that a place holds, for a whole declared struct.
     Value(TypedExpr),
@@ -20,14 +19,14 @@ pub enum TypedInitial {
 }
 
 /// An initializer: its `=`, and what it gives.
-#[derive(Debug, Drop)]
+#[derive(Drop)]
 pub struct TypedInitializer {
     pub at: At,
     pub value: TypedInitial,
 }
 
 /// The declaration of a local, where it stands. A list of declarators is so many declarations.
-#[derive(Debug, Drop)]
+#[derive(Drop)]
 pub struct TypedDeclaration {
     /// The declared name.
     pub at: At,
@@ -37,7 +36,7 @@ pub struct TypedDeclaration {
 }
 
 /// What a `for` begins with (C11 6.8.5.3).
-#[derive(Debug, Drop)]
+#[derive(Drop)]
 pub enum TypedStart {
     Nothing,
     Eval(TypedExpr),
@@ -45,7 +44,6 @@ pub enum TypedStart {
 }
 
 /// A statement or a declaration in a block (C11 6.8). Contracts see it as a `CStmt`, by `stmt_of`.
-#[derive(Debug)]
 pub enum TypedStmt {
     /// `{ .. }`
     Block(At, Vec<TypedStmt>),

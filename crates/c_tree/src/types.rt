@@ -9,7 +9,6 @@ use bb_words::list::List;
 use std::alloc::{AllocError, Global};
 
 /// A type. Contracts see it as a `CType`, by `ty_of`.
-#[derive(Debug)]
 pub enum Ty {
     /// `void`
     Void,
@@ -29,7 +28,7 @@ pub enum Ty {
 
 /// A struct: its tag, and its members in their order. A tag that is never defined has no members, size 0 and
 /// alignment 1.
-#[derive(Debug, Drop)]
+#[derive(Drop)]
 pub struct StructType {
     pub tag: Name,
     pub members: List<Member>,
@@ -40,7 +39,7 @@ pub struct StructType {
 }
 
 /// A member of a struct, so many bytes after the struct's start.
-#[derive(Debug, Drop)]
+#[derive(Drop)]
 pub struct Member {
     pub name: Name,
     pub ty: Ty,

@@ -6,7 +6,7 @@ use crate::syntax::expressions::Expression;
 use crate::syntax::specifiers::Specifier;
 
 /// An initialiser (C11 6.7.9).
-#[derive(Debug, Drop)]
+#[derive(Drop)]
 pub enum Initializer {
     /// One expression.
     Expression(Expression),
@@ -16,7 +16,7 @@ pub enum Initializer {
 
 /// A declarator with or without its initialiser (C11 6.7). It stands at its `=`, or at the declared name where there is
 /// none.
-#[derive(Debug, Drop)]
+#[derive(Drop)]
 pub struct InitDeclarator {
     pub at: At,
     pub declarator: Declarator,
@@ -24,7 +24,7 @@ pub struct InitDeclarator {
 }
 
 /// A declaration (C11 6.7), which may declare nothing.
-#[derive(Debug, Drop)]
+#[derive(Drop)]
 pub struct Declaration {
     pub at: At,
     pub specifier: Specifier,
@@ -32,7 +32,7 @@ pub struct Declaration {
 }
 
 /// Members of one specifier (C11 6.7.2.1), one or more.
-#[derive(Debug, Drop)]
+#[derive(Drop)]
 pub struct MemberDeclaration {
     pub at: At,
     pub specifier: Specifier,
@@ -40,7 +40,7 @@ pub struct MemberDeclaration {
 }
 
 /// `struct tag { members }` (C11 6.7.2.1), with one member declaration or more. It stands at the tag.
-#[derive(Debug, Drop)]
+#[derive(Drop)]
 pub struct StructDefinition {
     pub at: At,
     pub tag: Name,

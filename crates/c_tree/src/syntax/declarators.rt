@@ -10,14 +10,14 @@ use crate::syntax::specifiers::Specifier;
 use std::alloc::{AllocError, Global};
 
 /// `[ size ]` (C11 6.7.6.2); no size, where the brackets are empty.
-#[derive(Debug, Drop)]
+#[derive(Drop)]
 pub struct Array {
     pub at: At,
     pub size: Option<Expression>,
 }
 
 /// What a parameter makes of its specifier's type, with a name or without one (C11 6.7.6 and 6.7.7).
-#[derive(Debug, Drop)]
+#[derive(Drop)]
 pub enum ParameterDeclarator {
     /// Pointers, then arrays.
     Unnamed {
@@ -75,7 +75,7 @@ impl ParameterDeclarator {
 }
 
 /// A parameter. It stands at its specifier.
-#[derive(Debug, Drop)]
+#[derive(Drop)]
 pub struct Parameter {
     pub at: At,
     pub specifier: Specifier,
@@ -83,7 +83,7 @@ pub struct Parameter {
 }
 
 /// What stands between a function declarator's brackets (C11 6.7.6.3).
-#[derive(Debug, Drop)]
+#[derive(Drop)]
 pub enum Parameters {
     /// `void` alone: no parameters
     Void { at: At },
@@ -92,7 +92,7 @@ pub enum Parameters {
 }
 
 /// What follows the name or the brackets of a declarator.
-#[derive(Debug, Drop)]
+#[derive(Drop)]
 pub enum Suffix {
     /// `[ size ]`
     Array(Array),
@@ -104,7 +104,7 @@ pub enum Suffix {
 }
 
 /// A declared name, and what its declaration makes of the specifier's type (C11 6.7.6).
-#[derive(Debug, Drop)]
+#[derive(Drop)]
 pub enum Declarator {
     /// Pointers, then the name, then suffixes.
     Named {

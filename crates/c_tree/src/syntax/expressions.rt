@@ -11,7 +11,7 @@ use std::alloc::{AllocError, Global};
 
 /// An expression (C11 6.5).
 #[cycle(expressions)]
-#[derive(Debug, Drop)]
+#[derive(Drop)]
 pub enum Expression {
     /// `name` (6.5.1)
     Name {
@@ -405,7 +405,7 @@ fn boxed_pair(
 
 /// A type without an object, as in a cast or after `sizeof` (C11 6.7.7).
 #[cycle(expressions)]
-#[derive(Debug, Drop)]
+#[derive(Drop)]
 pub struct TypeName {
     pub at: At,
     pub specifier: Specifier,
@@ -414,7 +414,7 @@ pub struct TypeName {
 
 /// What a type name makes of its specifier's type. It stands at the specifier.
 #[cycle(expressions)]
-#[derive(Debug, Drop)]
+#[derive(Drop)]
 pub enum TypeDeclarator {
     /// Pointers, then array sizes.
     Direct {

@@ -5,7 +5,7 @@ ghost use Rattle.c_tree.specs.GrammarExpressions.{specifier_at};
 use crate::place::{At, Name};
 
 /// The words that name a type (C11 6.7.2).
-#[derive(Debug, Drop)]
+#[derive(Drop)]
 pub enum Specifier {
     /// `void`
     Void { at: At },

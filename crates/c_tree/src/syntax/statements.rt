@@ -8,7 +8,7 @@ use std::alloc::{AllocError, Global};
 
 /// A statement (C11 6.8).
 #[cycle(statements)]
-#[derive(Debug, Drop)]
+#[derive(Drop)]
 pub enum Statement {
     /// A block.
     Block(Block),
@@ -73,7 +73,7 @@ impl Statement {
 }
 
 /// How a `for` begins.
-#[derive(Debug, Drop)]
+#[derive(Drop)]
 pub enum ForStart {
     /// A declaration, whose names are known in the whole statement.
     Declaration(Declaration),
@@ -83,7 +83,7 @@ pub enum ForStart {
 
 /// `{ items }` (C11 6.8.2)
 #[cycle(statements)]
-#[derive(Debug, Drop)]
+#[derive(Drop)]
 pub struct Block {
     pub at: At,
     pub items: Vec<BlockItem>,
@@ -91,7 +91,7 @@ pub struct Block {
 
 /// What stands in a block.
 #[cycle(statements)]
-#[derive(Debug, Drop)]
+#[derive(Drop)]
 pub enum BlockItem {
     Declaration(Declaration),
     Statement(Statement),

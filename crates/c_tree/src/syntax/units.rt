@@ -7,14 +7,14 @@ use crate::syntax::specifiers::Specifier;
 use crate::syntax::statements::Block;
 
 /// What a declaration of the file begins with.
-#[derive(Debug, Drop)]
+#[derive(Drop)]
 pub enum Head {
     Specifier(Specifier),
     Struct(StructDefinition),
 }
 
 /// A declaration at file scope (C11 6.9).
-#[derive(Debug, Drop)]
+#[derive(Drop)]
 pub enum External {
     /// A declaration, which may declare no name.
     Declaration {
@@ -32,7 +32,7 @@ pub enum External {
 }
 
 /// A whole file (C11 6.9). It stands at its first token; an empty one at token 0 and line 1.
-#[derive(Debug, Drop)]
+#[derive(Drop)]
 pub struct Unit {
     pub at: At,
     pub externals: Vec<External>,
