@@ -1,0 +1,39 @@
+-- Blocks of memory, and the slots that they hold. A slot has 2 ^ g bytes.
+use Rattle.std.specs.Prelude.{◌≡◌, ◌⊎◌, ℕ, ◌+◌, ◌*◌, ◌%◌, ◌^◌, ◌≤◌, Bool, ◌&&◌, List, [], ◌∷◌, nat_le}
+
+-- the 2 ^ exponent bytes from base on
+pub record Block : Type 0 where
+  pub base : ℕ
+  pub exponent : ℕ
+
+abbrev pub block_at : ℕ → ℕ → Block
+block_at base exponent = record { base = base; exponent = exponent }
+
+-- the address past the last byte
+abbrev pub end_of : Block → ℕ
+end_of block = block.base + 2 ^ block.exponent
+
+-- A block is made of whole slots, has at most 16 MiB, begins at a multiple of its size, and lies in the 32 MiB of memory.
+pub record IsBlock (g : ℕ) (block : Block) : Type 0 where
+  pub least : g ≤ block.exponent
+  pub most : block.exponent ≤ 24
+  pub aligned : block.base % 2 ^ block.exponent ≡ 0
+  pub within : end_of block ≤ 33554432
+
+-- the bytes of the slot, which begin at a multiple of their number, all lie in the block
+abbrev pub holds : ℕ → Block → ℕ → Bool
+holds g block slot = nat_le block.base (2 ^ g * slot) && nat_le (2 ^ g * slot + 2 ^ g) (end_of block)
+
+-- two blocks do not meet
+abbrev pub MissEachOther : Block → Block → Type 0
+MissEachOther a b = (end_of a ≤ b.base) ⊎ (end_of b ≤ a.base)
+
+-- a block meets none of the blocks
+abbrev pub MissesAll : Block → List Block → Type 0
+MissesAll block [] = Unit {0}
+MissesAll block (b ∷ bs) = MissEachOther block b × MissesAll block bs
+
+-- no two of the blocks meet
+abbrev pub AreDisjoint : List Block → Type 0
+AreDisjoint [] = Unit {0}
+AreDisjoint (b ∷ bs) = MissesAll b bs × AreDisjoint bs
