@@ -1,7 +1,8 @@
-pub mod Decode
 pub mod State
 pub mod Memory
 pub mod Instruction
+pub mod Blocks
+pub mod Frames
 pub mod Environment
 pub mod Machine
 pub mod Start
