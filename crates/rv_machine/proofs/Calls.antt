@@ -7,13 +7,12 @@ use Rattle.rv_machine.specs.declared.stop.Fault.{Fault}
 use Rattle.rv_machine.specs.declared.stop.Fault.TheVariants as fault
 use Rattle.rv_machine.specs.declared.stop.Halt.TheVariants.{Trapped}
 use Rattle.rv_machine.specs.State.{Core, State, register_of, halted, with_core}
-use Rattle.bb_watch.specs.declared.event.Event.{Event}
 use Rattle.rv_machine.specs.Instruction.{Goes, Traps, Asks, core_step, core_events}
-use Rattle.rv_machine.specs.Environment.{World, Tell, telling, calls, exits, gets, puts, reports, enters, enter_events, leaves, leave_events}
+use Rattle.rv_machine.specs.Environment.{World, Tell, calls, exits, gets, puts, reports, enters, enter_events, leaves, leave_events}
 use Rattle.rv_machine.specs.Machine.{step, IsBeforeCall}
 use Rattle.rv_machine.specs.Runs.{Ran, Shown, Stepped}
 use Rattle.rv_machine.proofs.Steps.{step_acts}
-use Rattle.rv_machine.proofs.Outside.{ran_quiet, ran_same, ran_telling}
+use Rattle.rv_machine.proofs.Outside.{ran_quiet, ran_same, ran_events}
 
 pub call_exits : (s : State) (o : Shown) → register_of s.core 17 ≡ 1 → Ran calls s o (exits s) o
 unfolding calls
@@ -33,11 +32,11 @@ call_reports s o h = ran_quiet calls s (reports s) o (λ left told. rw h refl)
 
 pub call_enters : (s : State) (o : Shown) → register_of s.core 17 ≡ 7 → Ran calls s o (enters s) o
 unfolding calls
-call_enters s o h = ran_same (telling enter_events enters) calls s o (enters s) o (ran_telling enter_events enters s o) (λ rest told e. rw h refl)
+call_enters s o h = ran_events calls s (enters s) o (enter_events s) (λ left told. rw h refl)
 
 pub call_leaves : (s : State) (o : Shown) → register_of s.core 17 ≡ 8 → Ran calls s o (leaves s) o
 unfolding calls
-call_leaves s o h = ran_same (telling leave_events leaves) calls s o (leaves s) o (ran_telling leave_events leaves s o) (λ rest told e. rw h refl)
+call_leaves s o h = ran_events calls s (leaves s) o (leave_events s) (λ left told. rw h refl)
 
 -- the number is that of no call
 pub record IsNoCall (number : ℕ) : Type 0 where
@@ -56,9 +55,7 @@ pub call_traps : (s : State) (o : Shown) → IsNoCall (register_of s.core 17) �
 call_traps s o h = ran_quiet calls s (halted (Trapped Call) s) o (λ left told. no_call s left told h)
 
 pub step_goes : (s : State) (core : Core) (o : Shown) → s.ending ≡ None → core_step s.core ≡ Goes core → Ran step s o (with_core core s) o
-step_goes s core o h e =
-    let tells : State → List Event = λ t. core_events t.core in
-    ran_same (telling tells (with_core core)) step s o (with_core core s) o (ran_telling tells (with_core core) s o) (λ rest told i. step_acts (record { machine = s; left = rest; told = told }) (Goes core) h e)
+step_goes s core o h e = ran_events step s (with_core core s) o (core_events s.core) (λ left told. step_acts (record { machine = s; left = left; told = told }) (Goes core) h e)
 
 pub step_traps : (s : State) (kind : TrapKind) (o : Shown) → s.ending ≡ None → core_step s.core ≡ Traps kind → Ran step s o (halted (Trapped kind) s) o
 step_traps s kind o h e = ran_quiet step s (halted (Trapped kind) s) o (λ left told. step_acts (record { machine = s; left = left; told = told }) (Traps kind) h e)

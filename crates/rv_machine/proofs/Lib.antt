@@ -4,3 +4,4 @@ pub mod Calls
 pub mod Runs
 pub mod Tables
 pub mod Programs
+pub mod Layouts

@@ -8,7 +8,7 @@ use Rattle.bb_outside.specs.declared.SinkFailed.{SinkFailed}
 use Rattle.bb_outside.specs.Streams.{Takes, Ends, TakesSome, Puts}
 use Rattle.rv_machine.specs.State.{State, gives, with_core, register_of}
 use Rattle.bb_watch.specs.declared.event.Event.{Event}
-use Rattle.rv_machine.specs.Environment.{World, Tell, Output, Happens, output_of, telling, gets, puts}
+use Rattle.rv_machine.specs.Environment.{World, Tell, Output, Happens, output_of, gets, puts}
 use Rattle.rv_machine.specs.Runs.{Ran, Shown}
 
 -- what is told, with nothing more
@@ -50,14 +50,14 @@ events_quiet [] = refl
 events_quiet (event ∷ events) = events_quiet events
 
 -- the machine changes, and events are told
-pub ran_telling : (tells : State → List Event) (f : State → State) (s : State) (o : Shown) → Ran (telling tells f) s o (f s) o
-ran_telling tells f s o = record {
+pub ran_events : (f : World → World) (s s' : State) (o : Shown) (events : List Event) → ((left : List ℕ) (told : List Tell) → f (record { machine = s; left = left; told = told }) ≡ record { machine = s'; left = left; told = told ++ map Happens events }) → Ran f s o s' o
+ran_events f s s' o events h = record {
   taken = [];
-  tells = map Happens (tells s);
-  does = λ rest told e. refl;
+  tells = map Happens events;
+  does = λ rest told e. h rest told;
   input = λ bytes e. (bytes, refl, e);
   over = λ e. (refl, e);
-  output = λ bytes e. written_nil o.written bytes e ∙ ap (λ (l : List ℕ). Some (bytes ++ l)) (sym (events_quiet (tells s)));
+  output = λ bytes e. written_nil o.written bytes e ∙ ap (λ (l : List ℕ). Some (bytes ++ l)) (sym (events_quiet events));
 }
 
 -- a byte was taken

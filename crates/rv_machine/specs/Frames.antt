@@ -6,7 +6,7 @@ use Rattle.rv_machine.specs.declared.frames.Entered.{Entered}
 use Rattle.rv_machine.specs.declared.frames.Entry.{Entry}
 use Rattle.rv_machine.specs.declared.frames.Entry.TheVariants.{NoFrame, TooDeep, NoRoom, Enters}
 use Rattle.rv_machine.specs.Blocks.{all_made, all_ended, blocks_from, AreExponents}
-use Rattle.rv_machine.specs.State.{Frames}
+use Rattle.rv_machine.specs.State.{Core, Frames}
 
 -- the exponent of a frame's alignment: that of its largest block, which is the first, or of a slot
 abbrev pub alignment : List ℕ → ℕ
@@ -43,6 +43,13 @@ enter (Some es) k frames memory =
     if nat_le 4096 (length frames.entered) then refused TooDeep frames memory
     else if nat_lt (stack_under frames.stack es) 12582912 then refused NoRoom frames memory
     else entered_at (stack_under frames.stack es) k es frames memory
+
+-- a frame that is not entered changes nothing
+abbrev pub KeepsUnlessEntered : Entry → (old new : Frames) → (old_core new_core : Core) → Type 0
+KeepsUnlessEntered (Enters base) old new old_core new_core = Unit {0}
+KeepsUnlessEntered NoFrame old new old_core new_core = (new ≡ old) × (new_core ≡ old_core)
+KeepsUnlessEntered TooDeep old new old_core new_core = (new ≡ old) × (new_core ≡ old_core)
+KeepsUnlessEntered NoRoom old new old_core new_core = (new ≡ old) × (new_core ≡ old_core)
 
 -- what comes of leaving a frame: the stack number that it goes back to, unless it is not left
 pub record Leaving : Type 0 where

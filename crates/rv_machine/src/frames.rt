@@ -1,5 +1,5 @@
 //! The frames of an image, and the calls that were entered.
-ghost use Rattle.std.specs.Prelude.{◌≡◌, ◌+◌, ◌<◌, ◌≤◌, ◌++◌, ◌∷◌, [], length, vec_len, vec_capacity, slice_get, IfOk, Some};
+ghost use Rattle.std.specs.Prelude.{◌≡◌, ◌+◌, ◌<◌, ◌≤◌, ◌++◌, ◌∷◌, [], length, vec_len, vec_capacity, slice_get, IfOk, IfNone, Some};
 ghost use Rattle.rv_image.specs.Rules.{IsImage, total_size, AreFrames};
 ghost use Rattle.rv_machine.specs.Blocks.{AreExponents};
 ghost use Rattle.rv_machine.specs.Frames.{stack_under, AreLayouts};
@@ -113,7 +113,7 @@ fn copied(alloc: Global, layouts: &List<List<u8>>) -> Result<List<List<u8>>, All
 
 impl Frames {
     ghost use Rattle.rv_machine.specs.State.{with_memory};
-    ghost use Rattle.rv_machine.specs.Frames.{enter, leave, last_entered};
+    ghost use Rattle.rv_machine.specs.Frames.{enter, leave, last_entered, KeepsUnlessEntered};
     ghost use Rattle.rv_machine.specs.Start.{start_frames};
 
     /// No call is entered. It takes the memory for all calls that ever may be.
@@ -136,6 +136,7 @@ impl Frames {
         ensures answer { result ≡ (enter (slice_get self.old.layouts k) k self.old core.old.memory).answer }
         ensures frames { self.new ≡ (enter (slice_get self.old.layouts k) k self.old core.old.memory).frames }
         ensures core { core.new ≡ with_memory (enter (slice_get self.old.layouts k) k self.old core.old.memory).memory core.old }
+        ensures kept { KeepsUnlessEntered result self.old self.new core.old core.new }
     {
         let at = k as usize;
         if at >= self.layouts.len() {
@@ -165,6 +166,7 @@ impl Frames {
         ensures answer { result ≡ (leave (last_entered self.old) (slice_get self.old.layouts k) k self.old core.old.memory).answer }
         ensures frames { self.new ≡ (leave (last_entered self.old) (slice_get self.old.layouts k) k self.old core.old.memory).frames }
         ensures core { core.new ≡ with_memory (leave (last_entered self.old) (slice_get self.old.layouts k) k self.old core.old.memory).memory core.old }
+        ensures kept { IfNone result ((self.new ≡ self.old) × (core.new ≡ core.old)) }
     {
         let count = self.entered.len();
         if count == 0 {
