@@ -5,3 +5,4 @@ pub mod Runs
 pub mod Tables
 pub mod Programs
 pub mod Layouts
+pub mod Tells

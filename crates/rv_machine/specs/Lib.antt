@@ -7,3 +7,7 @@ pub mod Environment
 pub mod Machine
 pub mod Start
 pub mod Runs
+pub mod Live
+pub mod Safety
+pub mod Seen
+pub mod Laws

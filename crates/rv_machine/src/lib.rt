@@ -5,6 +5,7 @@ mod access;
 mod blocks;
 mod core_step;
 mod frames;
+pub mod laws;
 pub mod machine;
 mod memory;
 pub mod stop;
