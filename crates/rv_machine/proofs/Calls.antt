@@ -1,5 +1,5 @@
 -- One instruction, by what the core and the environment do.
-use Rattle.std.proofs.Common.{◌≡◌, ◌≢◌, ◌++◌, ℕ, List, Option, Some, None, refl, sym, subst, ap, ◌∙◌, arith}
+use Rattle.std.proofs.Common.{◌≡◌, ◌≢◌, ◌++◌, ℕ, List, Option, Some, None, refl, sym, subst, arith}
 use Rattle.std.proofs.lemmas.Bool.Decides.{nat_tests}
 use Rattle.bb_words.specs.declared.kinds.TrapKind.{TrapKind}
 use Rattle.bb_words.specs.declared.kinds.TrapKind.TheVariants.{Call}
@@ -8,7 +8,7 @@ use Rattle.rv_machine.specs.declared.stop.Fault.TheVariants as fault
 use Rattle.rv_machine.specs.declared.stop.Halt.TheVariants.{Trapped}
 use Rattle.rv_machine.specs.State.{Core, State, register_of, halted, with_core}
 use Rattle.rv_machine.specs.Instruction.{Goes, Traps, Asks, core_step, core_events}
-use Rattle.rv_machine.specs.Environment.{World, Tell, calls, exits, gets, puts, reports, enters, enter_events, leaves, leave_events}
+use Rattle.rv_machine.specs.Environment.{Tell, calls, exits, gets, puts, reports, enters, enter_events, leaves, leave_events}
 use Rattle.rv_machine.specs.Machine.{step, IsBeforeCall}
 use Rattle.rv_machine.specs.Runs.{Ran, Shown, Stepped}
 use Rattle.rv_machine.proofs.Steps.{step_acts}

@@ -1,6 +1,5 @@
 -- The frames of an image, as the machine needs them.
-use Rattle.std.proofs.Common.{◌≡◌, ℕ, zero, suc, ◌<◌, ◌≤◌, List, [], ◌∷◌, length, get_or, Some, subst, arith, lit≤}
-use Rattle.std.specs.Prelude.{slice_get}
+use Rattle.std.proofs.Common.{◌≡◌, ℕ, zero, suc, ◌≤◌, List, [], ◌∷◌, subst, arith, lit≤}
 use Rattle.rv_image.specs.Rules.{Decline, AreFrames, total_size}
 use Rattle.rv_machine.specs.Blocks.{AreExponents}
 use Rattle.rv_machine.specs.Frames.{AreLayouts}

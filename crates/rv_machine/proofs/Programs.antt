@@ -1,5 +1,5 @@
 -- Words that stand in memory, and what the machine does at one.
-use Rattle.std.proofs.Common.{◌≡◌, ◌≢◌, ℕ, ◌+◌, ◌-◌, ◌*◌, ◌/◌, ◌%◌, ◌^◌, ◌<◌, ◌≤◌, cond, ltb, leb, false, List, [], ◌∷◌, length, get_or, set, eqb, Option, Some, refl, sym, ap, subst, ◌∙◌, arith, lit<, lit≤, get_or-set_other, get_or-set_same, length-set}
+use Rattle.std.proofs.Common.{◌≡◌, ◌≢◌, ℕ, ◌+◌, ◌*◌, ◌/◌, ◌%◌, ◌^◌, ◌<◌, ◌≤◌, cond, ltb, leb, false, List, [], ◌∷◌, length, get_or, set, eqb, Option, Some, refl, sym, ap, subst, ◌∙◌, arith, lit<, lit≤, get_or-set_other, get_or-set_same, length-set}
 use Rattle.std.proofs.lemmas.Bool.Decides.{nat_tests}
 use Rattle.std.proofs.lemmas.Nat.{from_le_bytes-to_le_bytes_4}
 use Rattle.bb_words.specs.Numbers.{sum, difference}

@@ -4,8 +4,8 @@ use Rattle.std.specs.Prelude.{map}
 use Rattle.std.proofs.lemmas.Bool.Decides.{nat_tests}
 use Rattle.rv_machine.specs.declared.stop.Halt.{Halt}
 use Rattle.rv_machine.specs.State.{State, register_of}
-use Rattle.rv_machine.specs.Instruction.{Act, Goes, Traps, Asks, core_step, core_events}
-use Rattle.rv_machine.specs.Environment.{Tell, Output, Happens, World, enter_events, leave_events, calls, gets_from, telling, enters, leaves}
+use Rattle.rv_machine.specs.Instruction.{Act, Goes, Traps, Asks, core_step}
+use Rattle.rv_machine.specs.Environment.{Tell, Output, Happens, World, enter_events, leave_events, calls, gets_from}
 use Rattle.rv_machine.specs.Laws.{call_tells, act_tells, tells_of, tells_unless_ended}
 use Rattle.rv_machine.specs.Machine.{step, steps, acted, unless_ended}
 
@@ -87,9 +87,10 @@ unfolding steps
 steps_told zero k w = ([], ap (λ (n : ℕ). (steps n w).told) (add-zero k) ∙ sym (append-nil (steps k w).told))
 steps_told (suc d) k w =
     let before = steps_told d k w in
-    let last = tells_of (steps (k + d) w).machine in
-    (before.0 ++ last,
-     ap (λ (n : ℕ). (steps n w).told) (add-suc k d)
-     ∙ step_told (steps (k + d) w)
-     ∙ ap (λ (l : List Tell). l ++ last) before.1
-     ∙ append_assoc (steps k w).told before.0 last)
+    let last = tells_of (steps (k + d) w).machine in (
+      before.0 ++ last,
+      ap (λ (n : ℕ). (steps n w).told) (add-suc k d)
+          ∙ step_told (steps (k + d) w)
+          ∙ ap (λ (l : List Tell). l ++ last) before.1
+          ∙ append_assoc (steps k w).told before.0 last,
+    )

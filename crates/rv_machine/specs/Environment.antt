@@ -10,7 +10,7 @@ use Rattle.rv_machine.specs.declared.frames.Entry.{Entry}
 use Rattle.rv_machine.specs.declared.frames.Entry.TheVariants.{NoFrame, TooDeep, NoRoom, Enters}
 use Rattle.rv_machine.specs.declared.stop.Halt.TheVariants.{Exited, Reported, Trapped}
 use Rattle.rv_machine.specs.Frames.{Entering, Leaving, enter, leave, last_entered}
-use Rattle.rv_machine.specs.State.{Core, State, register_of, next, gives, with_memory, halted, with_core}
+use Rattle.rv_machine.specs.State.{State, register_of, next, gives, with_memory, halted, with_core}
 
 -- what a run tells the outside, one thing after another: the bytes of its output, and events
 pub data Tell : Type 0 where

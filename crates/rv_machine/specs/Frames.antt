@@ -1,5 +1,5 @@
 -- Frames that are entered and left.
-use Rattle.std.specs.Prelude.{◌≡◌, ◌==◌, ℕ, ◌+◌, ◌-◌, ◌*◌, ◌/◌, ◌^◌, ◌≤◌, List, [], ◌∷◌, ◌++◌, reverse, Option, Some, None, length, take, nat_lt, nat_le, if◌then◌else◌, slice_get}
+use Rattle.std.specs.Prelude.{◌≡◌, ◌==◌, ℕ, ◌-◌, ◌*◌, ◌/◌, ◌^◌, ◌≤◌, List, [], ◌∷◌, ◌++◌, reverse, Option, Some, None, length, take, nat_lt, nat_le, if◌then◌else◌, slice_get}
 use Rattle.size_table.specs.Blocks.{Block}
 use Rattle.rv_image.specs.Rules.{total_size}
 use Rattle.rv_machine.specs.declared.frames.Entered.{Entered}

@@ -1,6 +1,6 @@
 -- What an instruction does to the registers, the program counter and the memory (RISC-V unprivileged manual, chapters
 -- RV32I and M).
-use Rattle.std.specs.Prelude.{◌≡◌, ◌==◌, ℕ, ◌+◌, ◌*◌, ◌/◌, ◌%◌, ◌^◌, ◌<◌, ◌||◌, Bool, true, false, not, nat_eq, nat_lt, nat_le, int_lt, bit_and, bit_or, bit_xor, slice_index, if◌then◌else◌, List, [], ◌∷◌, Option, Some, None}
+use Rattle.std.specs.Prelude.{◌≡◌, ◌==◌, ℕ, ◌+◌, ◌*◌, ◌/◌, ◌%◌, ◌||◌, Bool, true, false, not, nat_eq, nat_lt, nat_le, int_lt, bit_and, bit_or, bit_xor, slice_index, if◌then◌else◌, List, [], ◌∷◌, Option, Some, None}
 use Rattle.std.specs.Int.{to_le_bytes, w16, w32}
 use Rattle.bb_words.specs.Numbers.{signed, sum, difference, product, signed_high_product, mixed_high_product, unsigned_high_product, signed_quotient, unsigned_quotient, signed_remainder, unsigned_remainder, left_shift, right_shift, signed_right_shift, signed_below, unsigned_below}
 use Rattle.bb_words.specs.declared.kinds.TrapKind.{TrapKind}

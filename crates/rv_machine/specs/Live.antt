@@ -1,5 +1,5 @@
 -- The blocks that are live in a run, those that ever were, and the block that a word belongs to.
-use Rattle.std.specs.Prelude.{◌==◌, ℕ, ◌+◌, ◌-◌, ◌*◌, ◌/◌, ◌%◌, ◌^◌, List, [], ◌∷◌, ◌++◌, Option, Some, None, nat_lt, if◌then◌else◌}
+use Rattle.std.specs.Prelude.{◌==◌, ℕ, ◌+◌, ◌-◌, ◌/◌, ◌%◌, ◌^◌, List, [], ◌∷◌, ◌++◌, Option, Some, None, nat_lt, if◌then◌else◌}
 use Rattle.bb_watch.specs.declared.event.Event.{Event}
 use Rattle.bb_watch.specs.declared.event.Event.TheVariants.{Made, Ended}
 use Rattle.rv_image.specs.declared.image.Image.{Image}
@@ -50,7 +50,7 @@ unmarked word = word % 2 ^ 31
 abbrev pub marked_slot : (g address : ℕ) → Option ℕ
 marked_slot g address =
     if nat_lt (address % 2 ^ g) (2 ^ (g - 1)) then
-      (if address / 2 ^ g == 0 then None else Some (address / 2 ^ g - 1))
+    (if address / 2 ^ g == 0 then None else Some (address / 2 ^ g - 1))
     else Some (address / 2 ^ g + 1)
 
 abbrev pub owner_slot : (g word : ℕ) → Option ℕ

@@ -1,5 +1,5 @@
 -- When a run is safe: bounds of pointers and accesses, the size table, calls and returns, and how it may end.
-use Rattle.std.specs.Prelude.{◌≡◌, ◌≢◌, ◌==◌, ◌⊎◌, ℕ, ◌+◌, ◌-◌, ◌/◌, ◌^◌, ◌<◌, ◌≤◌, Bool, false, List, [], ◌∷◌, Option, Some, None, IsSome, take, drop, if◌then◌else◌}
+use Rattle.std.specs.Prelude.{◌≡◌, ◌≢◌, ◌==◌, ◌⊎◌, ℕ, ◌+◌, ◌-◌, ◌/◌, ◌^◌, ◌<◌, ◌≤◌, false, List, [], ◌∷◌, Option, Some, None, IsSome, take, drop, if◌then◌else◌}
 use Rattle.bb_words.specs.declared.kinds.TrapKind.TheVariants.{Null, Marked, Misaligned}
 use Rattle.bb_watch.specs.declared.event.Event.{Event}
 use Rattle.bb_watch.specs.declared.event.Event.TheVariants.{Move, Access, Call, Return}
@@ -23,7 +23,7 @@ abbrev pub IsNear : ℕ → Block → ℕ → Type 0
 IsNear g b word =
     (2 ^ 31 ≤ word)
     × (((unmarked word < b.base) × (b.base ≤ unmarked word + 2 ^ (g - 1)))
-       ⊎ ((end_of b ≤ unmarked word) × (unmarked word < end_of b + 2 ^ (g - 1))))
+    ⊎ ((end_of b ≤ unmarked word) × (unmarked word < end_of b + 2 ^ (g - 1))))
 
 -- a checked move of a word leads into the live block that owns it, or near it
 abbrev pub IsMoveSafe : ℕ → (live ever : List Block) → Event → Type 0

@@ -36,7 +36,11 @@ pub(crate) fn signed_byte(byte: u8) -> u32
     ensures { result ≡ extended 8 byte }
 {
     let word = byte as u32;
-    if word < 0x80 { word } else { word + 0xFFFF_FF00 }
+    if word < 0x80 {
+        word
+    } else {
+        word + 0xFFFF_FF00
+    }
 }
 
 /// The word of two bytes that are signed.
@@ -44,5 +48,9 @@ pub(crate) fn signed_half(half: u16) -> u32
     ensures { result ≡ extended 16 half }
 {
     let word = half as u32;
-    if word < 0x8000 { word } else { word + 0xFFFF_0000 }
+    if word < 0x8000 {
+        word
+    } else {
+        word + 0xFFFF_0000
+    }
 }

@@ -40,7 +40,7 @@ impl Core {
     ghost use Rattle.size_table.specs.Table.{filled};
     ghost use Rattle.rv_machine.specs.Blocks.{made, ended};
     ghost use Rattle.rv_machine.specs.Memory.{half_at, word_at};
-    ghost use Rattle.rv_machine.specs.State.{register_of, next, gives, with_memory};
+    ghost use Rattle.rv_machine.specs.State.{register_of, set_register, next, gives, with_memory};
     ghost use Rattle.rv_machine.specs.Instruction.{address, loads, stores, jumps, links, branches, effect, core_step, Does};
     ghost use Rattle.rv_machine.specs.Start.{start};
 
@@ -143,9 +143,18 @@ impl Core {
             Instr::Lw { rd, rs1, imm } => self.load_word(rd, self.address(rs1, imm)),
             Instr::Lbu { rd, rs1, imm } => self.load_byte(rd, self.address(rs1, imm)),
             Instr::Lhu { rd, rs1, imm } => self.load_half(rd, self.address(rs1, imm)),
-            Instr::Sb { rs1, rs2, imm } => self.store_byte(self.address(rs1, imm), self.register(rs2)),
-            Instr::Sh { rs1, rs2, imm } => self.store_half(self.address(rs1, imm), self.register(rs2)),
-            Instr::Sw { rs1, rs2, imm } => self.store_word(self.address(rs1, imm), self.register(rs2)),
+            Instr::Sb { rs1, rs2, imm } => self.store_byte(
+                self.address(rs1, imm),
+                self.register(rs2),
+            ),
+            Instr::Sh { rs1, rs2, imm } => self.store_half(
+                self.address(rs1, imm),
+                self.register(rs2),
+            ),
+            Instr::Sw { rs1, rs2, imm } => self.store_word(
+                self.address(rs1, imm),
+                self.register(rs2),
+            ),
             Instr::Addi { rd, rs1, imm } => self.put(rd, self.word(rs1).add(Word(imm))),
             Instr::Slti { rd, rs1, imm } => self.put(rd, self.word(rs1).lts(Word(imm))),
             Instr::Sltiu { rd, rs1, imm } => self.put(rd, self.word(rs1).ltu(Word(imm))),
@@ -162,9 +171,18 @@ impl Core {
             Instr::Sltu { rd, rs1, rs2 } => self.put(rd, self.word(rs1).ltu(self.word(rs2))),
             Instr::Srl { rd, rs1, rs2 } => self.put(rd, self.word(rs1).shr(self.word(rs2))),
             Instr::Sra { rd, rs1, rs2 } => self.put(rd, self.word(rs1).sar(self.word(rs2))),
-            Instr::Xor { rd, rs1, rs2 } => self.put(rd, Word(self.register(rs1) ^ self.register(rs2))),
-            Instr::Or { rd, rs1, rs2 } => self.put(rd, Word(self.register(rs1) | self.register(rs2))),
-            Instr::And { rd, rs1, rs2 } => self.put(rd, Word(self.register(rs1) & self.register(rs2))),
+            Instr::Xor { rd, rs1, rs2 } => self.put(
+                rd,
+                Word(self.register(rs1) ^ self.register(rs2)),
+            ),
+            Instr::Or { rd, rs1, rs2 } => self.put(
+                rd,
+                Word(self.register(rs1) | self.register(rs2)),
+            ),
+            Instr::And { rd, rs1, rs2 } => self.put(
+                rd,
+                Word(self.register(rs1) & self.register(rs2)),
+            ),
             Instr::Mul { rd, rs1, rs2 } => self.put(rd, self.word(rs1).mul(self.word(rs2))),
             Instr::Mulh { rd, rs1, rs2 } => self.put(rd, self.word(rs1).mulh(self.word(rs2))),
             Instr::Mulhsu { rd, rs1, rs2 } => self.put(rd, self.word(rs1).mulhsu(self.word(rs2))),
@@ -233,9 +251,7 @@ impl Core {
                 kind: TrapKind::Fetch,
             };
         }
-        if rd != 0 {
-            self.registers[rd as usize] = self.pc + 4;
-        }
+        self.set(rd, self.pc + 4);
         self.pc = to;
         Effect::Went
     }
@@ -372,10 +388,18 @@ impl Core {
         requires in_text { self.old.pc < 2097152 }
         ensures { self.new ≡ gives rd value self.old }
     {
+        self.set(rd, value);
+        self.pc += 4;
+    }
+
+    // A register gets a value; register 0 stays 0.
+    fn set(&mut self, rd: u8, value: u32)
+        requires { rd < 32 }
+        ensures { self.new ≡ set_register rd value self.old }
+    {
         if rd != 0 {
             self.registers[rd as usize] = value;
         }
-        self.pc += 4;
     }
 
     /// The next instruction comes.

@@ -77,7 +77,12 @@ fn stack_under(stack: u32, exponents: &[u8]) -> u32
     ensures room { 0 < result → result + total_size exponents.now ≤ stack }
 {
     let most = stack.saturating_sub(total_size(exponents));
-    let alignment = 1u32 << (if let [first, ..] = exponents { *first } else { 4 });
+    let alignment = 1u32
+        << (if let [first, ..] = exponents {
+            *first
+        } else {
+            4
+        });
     most / alignment * alignment
 }
 

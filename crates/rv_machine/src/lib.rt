@@ -9,3 +9,5 @@ pub mod laws;
 pub mod machine;
 mod memory;
 pub mod stop;
+#[cfg(test)]
+mod tests;

@@ -1,4 +1,4 @@
-use Rattle.std.proofs.Common.{◌≡◌, ◌≢◌, ℕ, refl, sym, ap, ◌∙◌, arith}
+use Rattle.std.proofs.Common.{◌≡◌, refl, sym, ap, ◌∙◌, arith}
 use Rattle.rv_machine.specs.State.{State, register_of}
 use Rattle.rv_machine.specs.Environment.{calls}
 use Rattle.rv_machine.proofs.Outside.{ran_at}

@@ -1,4 +1,4 @@
-use Rattle.std.proofs.Common.{◌≡◌, ℕ, refl, sym, ap, ◌∙◌}
+use Rattle.std.proofs.Common.{ℕ, refl, sym, ap, ◌∙◌}
 use Rattle.rv_machine.specs.State.{Core, State, gives, with_core}
 use Rattle.rv_machine.specs.Environment.{gets}
 use Rattle.rv_machine.proofs.Outside.{ran_at, ran_byte, ran_end, ran_source_failed}

@@ -1,4 +1,4 @@
-use Rattle.std.proofs.Common.{◌≡◌, ℕ, ◌%◌, refl, sym, ap, ◌∙◌}
+use Rattle.std.proofs.Common.{ℕ, ◌%◌, refl, sym, ap, ◌∙◌}
 use Rattle.rv_machine.specs.State.{Core, State, gives, with_core}
 use Rattle.rv_machine.specs.Environment.{puts}
 use Rattle.rv_machine.proofs.Outside.{ran_at, ran_written, ran_sink_failed}
