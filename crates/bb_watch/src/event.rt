@@ -4,7 +4,11 @@
 #[derive(Clone, Copy)]
 pub enum Event {
     /// The pointer `from` was moved and checked, and became `to`.
-    Move { pc: u32, from: u32, to: u32 },
+    Move {
+        pc: u32,
+        from: u32,
+        to: u32,
+    },
     /// The `size` bytes from `at` on were read, or written if `write`, by an address that register number `base` gave.
     Access {
         pc: u32,
@@ -14,15 +18,29 @@ pub enum Event {
         base: u8,
     },
     /// A function was called, whose code begins at `target`. It returns to `pc + 4`.
-    Call { pc: u32, target: u32 },
+    Call {
+        pc: u32,
+        target: u32,
+    },
     /// A function returned to `target`.
-    Return { pc: u32, target: u32 },
+    Return {
+        pc: u32,
+        target: u32,
+    },
     /// A block of 2^`exponent` bytes from `at` on was made.
-    Made { at: u32, exponent: u8 },
+    Made {
+        at: u32,
+        exponent: u8,
+    },
     /// The block of 2^`exponent` bytes from `at` on ended.
-    Ended { at: u32, exponent: u8 },
+    Ended {
+        at: u32,
+        exponent: u8,
+    },
     /// A statement of this line of the source comes next.
-    Line { line: u32 },
+    Line {
+        line: u32,
+    },
 }
 
 /// Kinds of events, one field for each variant of `Event`.
