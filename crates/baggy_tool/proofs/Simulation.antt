@@ -1,6 +1,7 @@
 -- The machine on the words of a sum.
-use Rattle.std.proofs.Common.{◌≡◌, ◌≢◌, ℕ, ◌+◌, ◌-◌, ◌*◌, ◌/◌, ◌%◌, ◌^◌, ◌<◌, ◌≤◌, Bool, true, false, cond, ltb, leb, List, [], ◌∷◌, ◌++◌, length, get_or, set, Option, Some, None, refl, sym, ap, subst, ◌∙◌, arith, lit<, lit≤, get_or-set_other, get_or-set_same, length-set}
-use Rattle.std.specs.Prelude.{replicate, IsSome, is_some}
+use Rattle.std.proofs.Common.{◌≡◌, ◌≢◌, ℕ, ◌+◌, ◌-◌, ◌*◌, ◌/◌, ◌%◌, ◌^◌, ◌<◌, ◌≤◌, Bool, true, false, cond, ltb, leb, List, [], ◌∷◌, ◌++◌, length, get_or, set, Option, Some, None, refl, sym, ap, subst, ◌∙◌, arith, lit<, lit≤, append-nil, get_or-set_other, get_or-set_same, length-set}
+use Rattle.std.specs.Prelude.{map, replicate, IsSome, is_some}
+use Rattle.bb_watch.specs.declared.event.Event.{Event}
 use Rattle.std.proofs.lemmas.Bool.Decides.{nat_tests}
 use Rattle.std.proofs.lemmas.List.{length-replicate}
 use Rattle.bb_words.specs.Numbers.{sum, difference}
@@ -9,12 +10,12 @@ use Rattle.rv_machine.specs.declared.stop.Halt.{Halt}
 use Rattle.rv_machine.specs.declared.stop.Halt.TheVariants.{Exited}
 use Rattle.rv_machine.specs.State.{Core, State, memory_size, register_of}
 use Rattle.rv_machine.specs.Memory.{word_at, written_at, bytes_of_words}
-use Rattle.rv_machine.specs.Instruction.{Goes, Asks, core_step}
-use Rattle.rv_machine.specs.Environment.{World, Tell, calls}
+use Rattle.rv_machine.specs.Instruction.{Goes, Asks, core_step, core_events}
+use Rattle.rv_machine.specs.Environment.{World, Tell, Happens, calls}
 use Rattle.rv_machine.specs.Machine.{step, steps, machine_after, IsBeforeCall}
-use Rattle.rv_machine.specs.Start.{start, start_memory, start_registers}
+use Rattle.rv_machine.specs.Start.{start, start_memory, start_registers, start_frames}
 use Rattle.rv_machine.proofs.Steps.{steps_none, steps_add, steps_stay, step_acts}
-use Rattle.rv_machine.proofs.Programs.{Has, AreWords, words_stand, extended, lui_goes, addi_goes, add_goes, sub_goes, ecall_asks}
+use Rattle.rv_machine.proofs.Programs.{Has, AreWords, words_stand, extended, lui_goes, lui_quiet, addi_goes, addi_quiet, add_goes, add_quiet, sub_goes, sub_quiet, ecall_asks}
 use Rattle.baggy_tool.specs.declared.form.Summand.{Summand}
 use Rattle.baggy_tool.specs.Form.{with_summand, sum_from}
 use Rattle.baggy_tool.specs.Code.{summand_words, sum_words, exit_words, IsCompiled}
@@ -24,7 +25,7 @@ core_at pc r m = record { pc = pc; registers = r; memory = m }
 
 -- a machine that goes on, on some input, and with what it has told
 abbrev world : Core → List ℕ → List Tell → World
-world core input told = record { machine = record { core = core; ending = None }; left = input; told = told }
+world core input told = record { machine = record { core = core; frames = start_frames []; ending = None }; left = input; told = told }
 
 -- before each of the first n instructions, the only environment call is that of number 1
 abbrev OnlyExits : ℕ → World → Type 0
@@ -64,10 +65,10 @@ no_call c d number s e same before =
     let asks : core_step c ≡ Asks = ap core_step (sym same) ∙ before.call in
     absurd (cc)
 
--- one instruction of the core
-goes : (c d : Core) (input : List ℕ) (told : List Tell) → core_step c ≡ Goes d → GoesOn 1 (world c input told) (world d input told)
-goes c d input told e = record {
-  comes = one_is (world c input told) ∙ step_acts (world c input told) (Goes d) refl e;
+-- one instruction of the core, which tells nothing
+goes : (c d : Core) (input : List ℕ) (told : List Tell) → core_step c ≡ Goes d → core_events c ≡ [] → GoesOn 1 (world c input told) (world d input told)
+goes c d input told e quiet = record {
+  comes = one_is (world c input told) ∙ step_acts (world c input told) (Goes d) refl e ∙ ap (λ (events : List Event). world d input (told ++ map Happens events)) quiet ∙ ap (world d input) (append-nil told);
   only = λ k number h before.
       let first : k ≡ 0 = omega arith in
       let w = world c input told in
@@ -98,6 +99,10 @@ combined_registers minus r = cond minus (difference (get_or r 10 0) (get_or r 11
 last_step : (minus : Bool) (m r : List ℕ) (pc : ℕ) → 4096 ≤ pc → pc < 2097152 → word_at m pc ≡ cond minus 1085605171 11863347 → core_step (core_at pc r m) ≡ Goes (core_at (pc + 4) (set r 10 (combined_registers minus r)) m)
 last_step true m r pc low high h = sub_goes (core_at pc r m) 10 10 11 (record { low = low; high = high }) (lit< tt) (lit< tt) (lit< tt) h
 last_step false m r pc low high h = add_goes (core_at pc r m) 10 10 11 (record { low = low; high = high }) (lit< tt) (lit< tt) (lit< tt) h
+
+last_quiet : (minus : Bool) (m r : List ℕ) (pc : ℕ) → word_at m pc ≡ cond minus 1085605171 11863347 → core_events (core_at pc r m) ≡ []
+last_quiet true m r pc h = sub_quiet (core_at pc r m) 10 10 11 (lit< tt) (lit< tt) (lit< tt) h
+last_quiet false m r pc h = add_quiet (core_at pc r m) 10 10 11 (lit< tt) (lit< tt) (lit< tt) (lit< tt) h
 
 pair_of : {a b c d : ℕ} → a ≡ b → c ≡ d → ◌≡◌ {A = ℕ × ℕ} (a, c) (b, d)
 pair_of e f = cc
@@ -153,9 +158,11 @@ summand_runs s ws m r pc total input told k small low high h =
     let r1 = set r 11 hi in
     let r2 = set r1 11 ((get_or r1 11 0 + lo) % 2 ^ 32) in
     let r3 = set r2 10 (combined_registers s.minus r2) in
-    let e1 = goes (core_at pc r m) (core_at (pc + 4) r1 m) input told (lui_goes (core_at pc r m) 11 ((v + 2048) / 4096) (record { low = low; high = omega arith }) (lit< tt) (omega arith) (h.0 ∙ lui_word ((v + 2048) / 4096))) in
-    let e2 = goes (core_at (pc + 4) r1 m) (core_at (pc + 4 + 4) r2 m) input told (addi_goes (core_at (pc + 4) r1 m) 11 11 (v % 4096) (record { low = omega arith; high = omega arith }) (lit< tt) (lit< tt) (omega arith) (h.1.0 ∙ addi_word (v % 4096))) in
-    let e3 = goes (core_at (pc + 4 + 4) r2 m) (core_at (pc + 4 + 4 + 4) r3 m) input told (last_step s.minus m r2 (pc + 4 + 4) (omega arith) (omega arith) h.1.1.0) in
+    let w1 = h.0 ∙ lui_word ((v + 2048) / 4096) in
+    let w2 = h.1.0 ∙ addi_word (v % 4096) in
+    let e1 = goes (core_at pc r m) (core_at (pc + 4) r1 m) input told (lui_goes (core_at pc r m) 11 ((v + 2048) / 4096) (record { low = low; high = omega arith }) (lit< tt) (omega arith) w1) (lui_quiet (core_at pc r m) 11 ((v + 2048) / 4096) (lit< tt) (lit< tt) (omega arith) w1) in
+    let e2 = goes (core_at (pc + 4) r1 m) (core_at (pc + 4 + 4) r2 m) input told (addi_goes (core_at (pc + 4) r1 m) 11 11 (v % 4096) (record { low = omega arith; high = omega arith }) (lit< tt) (lit< tt) (omega arith) w2) (addi_quiet (core_at (pc + 4) r1 m) 11 11 (v % 4096) (lit< tt) (lit< tt) (omega arith) w2) in
+    let e3 = goes (core_at (pc + 4 + 4) r2 m) (core_at (pc + 4 + 4 + 4) r3 m) input told (last_step s.minus m r2 (pc + 4 + 4) (omega arith) (omega arith) h.1.1.0) (last_quiet s.minus m r2 (pc + 4 + 4) h.1.1.0) in
     let p : pc + 4 + 4 + 4 ≡ pc + 12 = omega arith in
     let start = world (core_at pc r m) input told in
     let all = then_on 2 1 start _ _ (then_on 1 1 start _ _ e1 e2) e3 in
@@ -219,7 +226,7 @@ exit_runs m r pc total input told k low high h =
     let r1 = set r 17 (sum (get_or r 0 0) 1) in
     let w = world (core_at pc r m) input told in
     let c1 = core_at (pc + 4) r1 m in
-    let e1 = goes (core_at pc r m) c1 input told (addi_goes (core_at pc r m) 17 0 1 (record { low = low; high = omega arith }) (lit< tt) (lit< tt) (lit< tt) h.0) in
+    let e1 = goes (core_at pc r m) c1 input told (addi_goes (core_at pc r m) 17 0 1 (record { low = low; high = omega arith }) (lit< tt) (lit< tt) (lit< tt) h.0) (addi_quiet (core_at pc r m) 17 0 1 (lit< tt) (lit< tt) (lit< tt) h.0) in
     let e2 = ecall_asks c1 (record { low = omega arith; high = omega arith }) h.1.0 in
     let l = k.long in
     let n : 10 ≢ 17 = omega arith in
@@ -246,9 +253,9 @@ pub words_length : (ss : List Summand) → length (sum_words ss ++ exit_words) �
 words_length [] = refl
 words_length (s ∷ ss) = omega (arith, words_length ss)
 
-start_is : (image : Image) (ss : List Summand) → IsCompiled ss image → start image ≡ record { core = core_at 4096 start_registers (written_at (replicate memory_size 0) 4096 (bytes_of_words (sum_words ss ++ exit_words))); ending = None }
+start_is : (image : Image) (ss : List Summand) → IsCompiled ss image → start image ≡ record { core = core_at 4096 start_registers (written_at (replicate memory_size 0) 4096 (bytes_of_words (sum_words ss ++ exit_words))); frames = start_frames []; ending = None }
 unfolding start start_memory
-start_is image ss h = rw (h.entry, h.text, h.globals, h.initial) refl
+start_is image ss h = rw (h.entry, h.text, h.globals, h.frames, h.initial) refl
 
 -- the image exits in so many instructions with the low eight bits of the sum
 image_runs : (image : Image) (ss : List Summand) (input : List ℕ) → IsCompiled ss image → AreSmall ss → length ss ≤ 200 → ExitsIn (3 * length ss + 2) (sum_from 0 ss % 256) (machine_after image input 0)

@@ -1,5 +1,5 @@
 -- One instruction, by what the core and the environment do.
-use Rattle.std.proofs.Common.{◌≡◌, ◌≢◌, ◌++◌, ℕ, List, Option, Some, None, refl, sym, subst, ap, ◌∙◌, arith}
+use Rattle.std.proofs.Common.{◌≡◌, ◌≢◌, ◌++◌, ℕ, List, Option, Some, None, refl, sym, subst, arith}
 use Rattle.std.proofs.lemmas.Bool.Decides.{nat_tests}
 use Rattle.bb_words.specs.declared.kinds.TrapKind.{TrapKind}
 use Rattle.bb_words.specs.declared.kinds.TrapKind.TheVariants.{Call}
@@ -7,12 +7,12 @@ use Rattle.rv_machine.specs.declared.stop.Fault.{Fault}
 use Rattle.rv_machine.specs.declared.stop.Fault.TheVariants as fault
 use Rattle.rv_machine.specs.declared.stop.Halt.TheVariants.{Trapped}
 use Rattle.rv_machine.specs.State.{Core, State, register_of, halted, with_core}
-use Rattle.rv_machine.specs.Instruction.{Goes, Traps, Asks, core_step}
-use Rattle.rv_machine.specs.Environment.{World, Tell, calls, exits, gets, puts}
+use Rattle.rv_machine.specs.Instruction.{Goes, Traps, Asks, core_step, core_events}
+use Rattle.rv_machine.specs.Environment.{Tell, calls, exits, gets, puts, reports, enters, enter_events, leaves, leave_events}
 use Rattle.rv_machine.specs.Machine.{step, IsBeforeCall}
 use Rattle.rv_machine.specs.Runs.{Ran, Shown, Stepped}
 use Rattle.rv_machine.proofs.Steps.{step_acts}
-use Rattle.rv_machine.proofs.Outside.{ran_quiet, ran_same}
+use Rattle.rv_machine.proofs.Outside.{ran_quiet, ran_same, ran_events}
 
 pub call_exits : (s : State) (o : Shown) → register_of s.core 17 ≡ 1 → Ran calls s o (exits s) o
 unfolding calls
@@ -26,15 +26,36 @@ pub call_puts : (s : State) (o : Shown) (s' : State) (o' : Shown) → register_o
 unfolding calls
 call_puts s o s' o' h p = ran_same puts calls s o s' o' p (λ rest told e. rw h refl)
 
-no_call : (s : State) (left : List ℕ) (told : List Tell) → register_of s.core 17 ≢ 1 → register_of s.core 17 ≢ 2 → register_of s.core 17 ≢ 3 → calls (record { machine = s; left = left; told = told }) ≡ record { machine = halted (Trapped Call) s; left = left; told = told }
+pub call_reports : (s : State) (o : Shown) → register_of s.core 17 ≡ 6 → Ran calls s o (reports s) o
 unfolding calls
-no_call s left told h1 h2 h3 = grind (arith, nat_tests)
+call_reports s o h = ran_quiet calls s (reports s) o (λ left told. rw h refl)
 
-pub call_traps : (s : State) (o : Shown) → register_of s.core 17 ≢ 1 → register_of s.core 17 ≢ 2 → register_of s.core 17 ≢ 3 → Ran calls s o (halted (Trapped Call) s) o
-call_traps s o h1 h2 h3 = ran_quiet calls s (halted (Trapped Call) s) o (λ left told. no_call s left told h1 h2 h3)
+pub call_enters : (s : State) (o : Shown) → register_of s.core 17 ≡ 7 → Ran calls s o (enters s) o
+unfolding calls
+call_enters s o h = ran_events calls s (enters s) o (enter_events s) (λ left told. rw h refl)
+
+pub call_leaves : (s : State) (o : Shown) → register_of s.core 17 ≡ 8 → Ran calls s o (leaves s) o
+unfolding calls
+call_leaves s o h = ran_events calls s (leaves s) o (leave_events s) (λ left told. rw h refl)
+
+-- the number is that of no call
+pub record IsNoCall (number : ℕ) : Type 0 where
+  pub not_1 : number ≢ 1
+  pub not_2 : number ≢ 2
+  pub not_3 : number ≢ 3
+  pub not_6 : number ≢ 6
+  pub not_7 : number ≢ 7
+  pub not_8 : number ≢ 8
+
+no_call : (s : State) (left : List ℕ) (told : List Tell) → IsNoCall (register_of s.core 17) → calls (record { machine = s; left = left; told = told }) ≡ record { machine = halted (Trapped Call) s; left = left; told = told }
+unfolding calls
+no_call s left told h = grind (arith, nat_tests, h.not_1, h.not_2, h.not_3, h.not_6, h.not_7, h.not_8)
+
+pub call_traps : (s : State) (o : Shown) → IsNoCall (register_of s.core 17) → Ran calls s o (halted (Trapped Call) s) o
+call_traps s o h = ran_quiet calls s (halted (Trapped Call) s) o (λ left told. no_call s left told h)
 
 pub step_goes : (s : State) (core : Core) (o : Shown) → s.ending ≡ None → core_step s.core ≡ Goes core → Ran step s o (with_core core s) o
-step_goes s core o h e = ran_quiet step s (with_core core s) o (λ left told. step_acts (record { machine = s; left = left; told = told }) (Goes core) h e)
+step_goes s core o h e = ran_events step s (with_core core s) o (core_events s.core) (λ left told. step_acts (record { machine = s; left = left; told = told }) (Goes core) h e)
 
 pub step_traps : (s : State) (kind : TrapKind) (o : Shown) → s.ending ≡ None → core_step s.core ≡ Traps kind → Ran step s o (halted (Trapped kind) s) o
 step_traps s kind o h e = ran_quiet step s (halted (Trapped kind) s) o (λ left told. step_acts (record { machine = s; left = left; told = told }) (Traps kind) h e)

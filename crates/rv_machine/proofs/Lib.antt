@@ -4,3 +4,5 @@ pub mod Calls
 pub mod Runs
 pub mod Tables
 pub mod Programs
+pub mod Layouts
+pub mod Tells

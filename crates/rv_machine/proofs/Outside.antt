@@ -1,12 +1,14 @@
 -- What the calls of a source and of a sink do to a run.
-use Rattle.std.proofs.Common.{◌≡◌, ℕ, suc, ◌<◌, ◌≤◌, ◌%◌, Bool, true, false, List, [], ◌∷◌, ◌++◌, length, take, Option, Some, None, refl, sym, ap, subst, ◌∙◌, append-nil, arith}
+use Rattle.std.proofs.Common.{◌≡◌, ℕ, ◌<◌, ◌%◌, Bool, true, List, [], ◌∷◌, ◌++◌, take, Option, Some, None, refl, sym, ap, subst, ◌∙◌, append-nil, arith}
+use Rattle.std.specs.Prelude.{map}
 use Rattle.std.specs.declared.result.Result.TheVariants.{Ok, Err}
 use Rattle.std.proofs.lemmas.Bool.{false≢true}
 use Rattle.bb_outside.specs.declared.SourceFailed.{SourceFailed}
 use Rattle.bb_outside.specs.declared.SinkFailed.{SinkFailed}
 use Rattle.bb_outside.specs.Streams.{Takes, Ends, TakesSome, Puts}
 use Rattle.rv_machine.specs.State.{State, gives, with_core, register_of}
-use Rattle.rv_machine.specs.Environment.{World, Tell, Output, gets, puts}
+use Rattle.bb_watch.specs.declared.event.Event.{Event}
+use Rattle.rv_machine.specs.Environment.{World, Tell, Output, Happens, output_of, gets, puts}
 use Rattle.rv_machine.specs.Runs.{Ran, Shown}
 
 -- what is told, with nothing more
@@ -40,6 +42,22 @@ ran_quiet f s s' o h = record {
   input = λ bytes e. (bytes, refl, e);
   over = λ e. (refl, e);
   output = λ bytes e. written_nil o.written bytes e;
+}
+
+-- events are no output
+events_quiet : (events : List Event) → output_of (map Happens events) ≡ []
+events_quiet [] = refl
+events_quiet (event ∷ events) = events_quiet events
+
+-- the machine changes, and events are told
+pub ran_events : (f : World → World) (s s' : State) (o : Shown) (events : List Event) → ((left : List ℕ) (told : List Tell) → f (record { machine = s; left = left; told = told }) ≡ record { machine = s'; left = left; told = told ++ map Happens events }) → Ran f s o s' o
+ran_events f s s' o events h = record {
+  taken = [];
+  tells = map Happens events;
+  does = λ rest told e. h rest told;
+  input = λ bytes e. (bytes, refl, e);
+  over = λ e. (refl, e);
+  output = λ bytes e. written_nil o.written bytes e ∙ ap (λ (l : List ℕ). Some (bytes ++ l)) (sym (events_quiet events));
 }
 
 -- a byte was taken

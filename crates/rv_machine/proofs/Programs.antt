@@ -1,14 +1,16 @@
 -- Words that stand in memory, and what the machine does at one.
-use Rattle.std.proofs.Common.{◌≡◌, ◌≢◌, ℕ, ◌+◌, ◌-◌, ◌*◌, ◌/◌, ◌%◌, ◌^◌, ◌<◌, ◌≤◌, cond, ltb, leb, false, List, [], ◌∷◌, length, get_or, set, Some, refl, sym, ap, subst, ◌∙◌, arith, lit<, lit≤, get_or-set_other, get_or-set_same, length-set}
+use Rattle.std.proofs.Common.{◌≡◌, ◌≢◌, ℕ, ◌+◌, ◌*◌, ◌/◌, ◌%◌, ◌^◌, ◌<◌, ◌≤◌, cond, ltb, leb, false, List, [], ◌∷◌, length, get_or, set, eqb, Option, Some, refl, sym, ap, subst, ◌∙◌, arith, lit<, lit≤, get_or-set_other, get_or-set_same, length-set}
 use Rattle.std.proofs.lemmas.Bool.Decides.{nat_tests}
 use Rattle.std.proofs.lemmas.Nat.{from_le_bytes-to_le_bytes_4}
 use Rattle.bb_words.specs.Numbers.{sum, difference}
-use Rattle.rv_machine.specs.declared.decode.Instr.{Instr}
-use Rattle.rv_machine.specs.declared.decode.Instr.TheVariants.{Lui, Addi, Add, Sub, Ecall}
-use Rattle.rv_machine.specs.Decode.{decode_of}
+use Rattle.rv_code.specs.Code.{Fits, word_of, instruction_of}
+use Rattle.rv_code.specs.declared.instr.Instr.{Instr}
+use Rattle.rv_code.specs.declared.instr.Instr.TheVariants.{Lui, Addi, Add, Sub, Ecall}
+use Rattle.rv_code.proofs.RoundTrip.{read_back}
+use Rattle.rv_code.proofs.Words.{extended-12}
 use Rattle.rv_machine.specs.State.{Core, register_of, gives}
 use Rattle.rv_machine.specs.Memory.{word_at, written_at, bytes_of_words}
-use Rattle.rv_machine.specs.Instruction.{Goes, Asks, effect, core_step}
+use Rattle.rv_machine.specs.Instruction.{Goes, Asks, effect, core_step, core_events, event_of, event_if}
 
 -- ---- Words that stand in memory
 
@@ -61,80 +63,78 @@ pub record IsInText (c : Core) : Type 0 where
   pub low : 4096 ≤ c.pc
   pub high : c.pc < 2097152
 
-fetches : (c : Core) (i : Instr) → IsInText c → decode_of (word_at c.memory c.pc) ≡ Some i → core_step c ≡ effect i c
+fetches : (c : Core) (i : Instr) → IsInText c → instruction_of (word_at c.memory c.pc) ≡ Some i → core_step c ≡ effect i c
 unfolding core_step
 fetches c i text d =
     let a : ltb c.pc 4096 ≡ false = grind (arith, nat_tests, text.low) in
     let b : leb 2097152 c.pc ≡ false = grind (arith, nat_tests, text.high) in
     rw (a, b, d) refl
 
-decode_lui : (rd n : ℕ) → rd < 32 → n < 2 ^ 20 → decode_of (n * 4096 + rd * 128 + 55) ≡ Some (Lui rd (n * 4096))
-unfolding decode_of
-decode_lui rd n r h =
-    let a : (n * 4096 + rd * 128 + 55) % 128 ≡ 55 = omega arith in
-    let b : (n * 4096 + rd * 128 + 55) / 128 % 32 ≡ rd = omega arith in
-    let c : (n * 4096 + rd * 128 + 55) / 4096 ≡ n = omega arith in
-    rw (a, b, c) refl
+-- the instruction whose word stands at the program counter is the one that is done
+pub does_instr : (c : Core) (i : Instr) → IsInText c → Fits i → word_at c.memory c.pc ≡ word_of i → core_step c ≡ effect i c
+does_instr c i text fits w = fetches c i text (ap instruction_of w ∙ read_back i fits)
+
+-- and what it tells
+pub tells_instr : (c : Core) (i : Instr) → Fits i → word_at c.memory c.pc ≡ word_of i → core_events c ≡ event_of i c
+unfolding core_events
+tells_instr c i fits w = ap (λ (o : Option Instr). event_if o c) (ap instruction_of w ∙ read_back i fits)
+
+fits_lui : (rd n : ℕ) → rd < 32 → n < 2 ^ 20 → Fits (Lui rd (n * 4096))
+fits_lui rd n r h = (omega arith, omega arith, r)
+
+lui_word : (rd n : ℕ) → n < 2 ^ 20 → n * 4096 + rd * 128 + 55 ≡ word_of (Lui rd (n * 4096))
+lui_word rd n h = omega arith
 
 -- lui rd, n
 pub lui_goes : (c : Core) (rd n : ℕ) → IsInText c → rd < 32 → n < 2 ^ 20 → word_at c.memory c.pc ≡ n * 4096 + rd * 128 + 55 → core_step c ≡ Goes (gives rd (n * 4096) c)
-lui_goes c rd n text r h w = fetches c (Lui rd (n * 4096)) text (ap decode_of w ∙ decode_lui rd n r h)
+lui_goes c rd n text r h w = does_instr c (Lui rd (n * 4096)) text (fits_lui rd n r h) (w ∙ lui_word rd n h)
+
+pub lui_quiet : (c : Core) (rd n : ℕ) → 0 < rd → rd < 32 → n < 2 ^ 20 → word_at c.memory c.pc ≡ n * 4096 + rd * 128 + 55 → core_events c ≡ []
+lui_quiet c rd n some r h w =
+    let e : eqb rd 0 ≡ false = grind (arith, nat_tests) in
+    tells_instr c (Lui rd (n * 4096)) (fits_lui rd n r h) (w ∙ lui_word rd n h) ∙ rw e refl
 
 -- the word of an immediate of 12 bits
 abbrev pub extended : ℕ → ℕ
 extended n = cond (ltb n 2048) n (n + 4294963200)
 
-decode_addi : (rd rs1 n : ℕ) → rd < 32 → rs1 < 32 → n < 4096 → decode_of (n * 1048576 + rs1 * 32768 + rd * 128 + 19) ≡ Some (Addi rd rs1 (extended n))
-unfolding decode_of
-decode_addi rd rs1 n r s h =
-    let w = n * 1048576 + rs1 * 32768 + rd * 128 + 19 in
-    let a : w % 128 ≡ 19 = omega arith in
-    let b : w / 4096 % 8 ≡ 0 = omega arith in
-    let c : w / 128 % 32 ≡ rd = omega arith in
-    let d : w / 32768 % 32 ≡ rs1 = omega arith in
-    let e : w / 1048576 ≡ n = omega arith in
-    rw (a, b, c, d, e) refl
+fits_addi : (rd rs1 n : ℕ) → rd < 32 → rs1 < 32 → n < 4096 → Fits (Addi rd rs1 (extended n))
+fits_addi rd rs1 n r s h = ((extended-12 n h).0, s, r)
+
+addi_word : (rd rs1 n : ℕ) → n < 4096 → n * 1048576 + rs1 * 32768 + rd * 128 + 19 ≡ word_of (Addi rd rs1 (extended n))
+addi_word rd rs1 n h =
+    let e : extended n % 4096 ≡ n = (extended-12 n h).1 in
+    omega (arith, e)
 
 -- addi rd, rs1, n
 pub addi_goes : (c : Core) (rd rs1 n : ℕ) → IsInText c → rd < 32 → rs1 < 32 → n < 4096 → word_at c.memory c.pc ≡ n * 1048576 + rs1 * 32768 + rd * 128 + 19 → core_step c ≡ Goes (gives rd (sum (register_of c rs1) (extended n)) c)
-addi_goes c rd rs1 n text r s h w = fetches c (Addi rd rs1 (extended n)) text (ap decode_of w ∙ decode_addi rd rs1 n r s h)
+addi_goes c rd rs1 n text r s h w = does_instr c (Addi rd rs1 (extended n)) text (fits_addi rd rs1 n r s h) (w ∙ addi_word rd rs1 n h)
 
-decode_add : (rd rs1 rs2 : ℕ) → rd < 32 → rs1 < 32 → rs2 < 32 → decode_of (rs2 * 1048576 + rs1 * 32768 + rd * 128 + 51) ≡ Some (Add rd rs1 rs2)
-unfolding decode_of
-decode_add rd rs1 rs2 r s t =
-    let w = rs2 * 1048576 + rs1 * 32768 + rd * 128 + 51 in
-    let a : w % 128 ≡ 51 = omega arith in
-    let b : w / 4096 % 8 ≡ 0 = omega arith in
-    let c : w / 128 % 32 ≡ rd = omega arith in
-    let d : w / 32768 % 32 ≡ rs1 = omega arith in
-    let e : w / 1048576 % 32 ≡ rs2 = omega arith in
-    let f : w / 33554432 ≡ 0 = omega arith in
-    rw (a, b, c, d, e, f) refl
+pub addi_quiet : (c : Core) (rd rs1 n : ℕ) → rd < 32 → rs1 < 32 → n < 4096 → word_at c.memory c.pc ≡ n * 1048576 + rs1 * 32768 + rd * 128 + 19 → core_events c ≡ []
+addi_quiet c rd rs1 n r s h w = tells_instr c (Addi rd rs1 (extended n)) (fits_addi rd rs1 n r s h) (w ∙ addi_word rd rs1 n h)
+
+add_word : (rd rs1 rs2 : ℕ) → rs2 * 1048576 + rs1 * 32768 + rd * 128 + 51 ≡ word_of (Add rd rs1 rs2)
+add_word rd rs1 rs2 = omega arith
 
 -- add rd, rs1, rs2
 pub add_goes : (c : Core) (rd rs1 rs2 : ℕ) → IsInText c → rd < 32 → rs1 < 32 → rs2 < 32 → word_at c.memory c.pc ≡ rs2 * 1048576 + rs1 * 32768 + rd * 128 + 51 → core_step c ≡ Goes (gives rd (sum (register_of c rs1) (register_of c rs2)) c)
-add_goes c rd rs1 rs2 text r s t w = fetches c (Add rd rs1 rs2) text (ap decode_of w ∙ decode_add rd rs1 rs2 r s t)
+add_goes c rd rs1 rs2 text r s t w = does_instr c (Add rd rs1 rs2) text (t, s, r) (w ∙ add_word rd rs1 rs2)
 
-decode_sub : (rd rs1 rs2 : ℕ) → rd < 32 → rs1 < 32 → rs2 < 32 → decode_of (1073741824 + rs2 * 1048576 + rs1 * 32768 + rd * 128 + 51) ≡ Some (Sub rd rs1 rs2)
-unfolding decode_of
-decode_sub rd rs1 rs2 r s t =
-    let w = 1073741824 + rs2 * 1048576 + rs1 * 32768 + rd * 128 + 51 in
-    let a : w % 128 ≡ 51 = omega arith in
-    let b : w / 4096 % 8 ≡ 0 = omega arith in
-    let c : w / 128 % 32 ≡ rd = omega arith in
-    let d : w / 32768 % 32 ≡ rs1 = omega arith in
-    let e : w / 1048576 % 32 ≡ rs2 = omega arith in
-    let f : w / 33554432 ≡ 32 = omega arith in
-    rw (a, b, c, d, e, f) refl
+pub add_quiet : (c : Core) (rd rs1 rs2 : ℕ) → 0 < rd → rd < 32 → rs1 < 32 → rs2 < 32 → word_at c.memory c.pc ≡ rs2 * 1048576 + rs1 * 32768 + rd * 128 + 51 → core_events c ≡ []
+add_quiet c rd rs1 rs2 some r s t w =
+    let e : eqb rd 0 ≡ false = grind (arith, nat_tests) in
+    tells_instr c (Add rd rs1 rs2) (t, s, r) (w ∙ add_word rd rs1 rs2) ∙ rw e refl
+
+sub_word : (rd rs1 rs2 : ℕ) → 1073741824 + rs2 * 1048576 + rs1 * 32768 + rd * 128 + 51 ≡ word_of (Sub rd rs1 rs2)
+sub_word rd rs1 rs2 = omega arith
 
 -- sub rd, rs1, rs2
 pub sub_goes : (c : Core) (rd rs1 rs2 : ℕ) → IsInText c → rd < 32 → rs1 < 32 → rs2 < 32 → word_at c.memory c.pc ≡ 1073741824 + rs2 * 1048576 + rs1 * 32768 + rd * 128 + 51 → core_step c ≡ Goes (gives rd (difference (register_of c rs1) (register_of c rs2)) c)
-sub_goes c rd rs1 rs2 text r s t w = fetches c (Sub rd rs1 rs2) text (ap decode_of w ∙ decode_sub rd rs1 rs2 r s t)
+sub_goes c rd rs1 rs2 text r s t w = does_instr c (Sub rd rs1 rs2) text (t, s, r) (w ∙ sub_word rd rs1 rs2)
 
-decode_ecall : decode_of 115 ≡ Some Ecall
-unfolding decode_of
-decode_ecall = refl
+pub sub_quiet : (c : Core) (rd rs1 rs2 : ℕ) → rd < 32 → rs1 < 32 → rs2 < 32 → word_at c.memory c.pc ≡ 1073741824 + rs2 * 1048576 + rs1 * 32768 + rd * 128 + 51 → core_events c ≡ []
+sub_quiet c rd rs1 rs2 r s t w = tells_instr c (Sub rd rs1 rs2) (t, s, r) (w ∙ sub_word rd rs1 rs2)
 
 -- ecall
 pub ecall_asks : (c : Core) → IsInText c → word_at c.memory c.pc ≡ 115 → core_step c ≡ Asks
-ecall_asks c text w = fetches c Ecall text (ap decode_of w ∙ decode_ecall)
+ecall_asks c text w = does_instr c Ecall text (lit< tt, lit< tt, lit< tt) w

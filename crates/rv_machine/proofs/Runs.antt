@@ -1,10 +1,10 @@
 -- Runs that are put together, and why they come back.
-use Rattle.std.proofs.Common.{◌≡◌, ℕ, ◌+◌, ◌<◌, ◌≤◌, true, List, [], ◌∷◌, ◌++◌, Option, Some, None, refl, sym, ap, subst, ◌∙◌, append_assoc}
+use Rattle.std.proofs.Common.{◌≡◌, ℕ, ◌+◌, ◌≤◌, true, List, [], ◌∷◌, ◌++◌, Option, Some, None, refl, sym, ap, subst, ◌∙◌, append_assoc}
 use Rattle.std.specs.Prelude.{IsSome}
 use Rattle.rv_machine.specs.declared.stop.Halt.{Halt}
 use Rattle.rv_machine.specs.declared.stop.Halt.TheVariants as halt
 use Rattle.rv_machine.specs.State.{State}
-use Rattle.rv_machine.specs.Environment.{World, Tell, Output, output_of}
+use Rattle.rv_machine.specs.Environment.{World, Tell, Output, Happens, output_of}
 use Rattle.rv_machine.specs.Machine.{step, steps}
 use Rattle.rv_machine.specs.Runs.{Ran, Shown, Stops, FaultCause, fault_of, stop_of}
 use Rattle.rv_machine.proofs.Steps.{steps_none, steps_more, steps_stay}
@@ -13,6 +13,7 @@ use Rattle.rv_machine.proofs.Outside.{ran_quiet, ran_same}
 output_append : (a b : List Tell) → output_of (a ++ b) ≡ output_of a ++ output_of b
 output_append [] b = refl
 output_append (Output x ∷ a) b = ap (λ (l : List ℕ). x ∷ l) (output_append a b)
+output_append (Happens event ∷ a) b = output_append a b
 
 pub ran_none : (s : State) (o : Shown) → Ran (steps 0) s o s o
 ran_none s o = ran_quiet (steps 0) s s o (λ left told. steps_none (record { machine = s; left = left; told = told }))

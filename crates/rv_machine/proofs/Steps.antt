@@ -1,12 +1,9 @@
 -- Instructions that are put together, and a machine that has ended.
-use Rattle.std.proofs.Common.{◌≡◌, ℕ, zero, suc, ◌+◌, ◌-◌, ◌≤◌, List, Option, Some, None, refl, sym, ap, ◌∙◌, add-one, add-zero, add-suc, arith}
+use Rattle.std.proofs.Common.{◌≡◌, ℕ, zero, suc, ◌+◌, ◌-◌, ◌≤◌, Option, Some, None, refl, ap, ◌∙◌, add-one, add-zero, add-suc, arith}
 use Rattle.std.specs.Prelude.{IsSome}
-use Rattle.bb_words.specs.declared.kinds.TrapKind.{TrapKind}
 use Rattle.rv_machine.specs.declared.stop.Halt.{Halt}
-use Rattle.rv_machine.specs.declared.stop.Halt.TheVariants as halt
-use Rattle.rv_machine.specs.State.{Core, State, with_core, halted}
-use Rattle.rv_machine.specs.Instruction.{Act, Goes, Traps, Asks, core_step}
-use Rattle.rv_machine.specs.Environment.{World, calls}
+use Rattle.rv_machine.specs.Instruction.{Act, core_step}
+use Rattle.rv_machine.specs.Environment.{World}
 use Rattle.rv_machine.specs.Machine.{step, steps, acted, unless_ended}
 
 pub steps_none : (w : World) → steps 0 w ≡ w

@@ -1,17 +1,33 @@
--- The environment calls. ECALL reads the number in x17 and arguments from x10 on, and answers in x10.
-use Rattle.std.specs.Prelude.{ℕ, ◌%◌, ◌==◌, if◌then◌else◌, List, [], ◌∷◌, ◌++◌}
+-- The environment calls. ECALL reads the number in x17 and arguments in x10 and x11, and answers in x10.
+use Rattle.std.specs.Prelude.{ℕ, ◌%◌, ◌==◌, if◌then◌else◌, Option, Some, None, List, [], ◌∷◌, ◌++◌, map, slice_get}
+use Rattle.bb_words.specs.declared.kinds.ReportKind.{ReportKind}
+use Rattle.bb_words.specs.declared.kinds.ReportKind.TheVariants.{Bounds, Pointer, DivZero, BadFree, Depth, Stack}
 use Rattle.bb_words.specs.declared.kinds.TrapKind.TheVariants.{Call}
-use Rattle.rv_machine.specs.declared.stop.Halt.TheVariants.{Exited, Trapped}
-use Rattle.rv_machine.specs.State.{Core, State, register_of, next, gives, halted, with_core}
+use Rattle.bb_watch.specs.declared.event.Event.{Event}
+use Rattle.bb_watch.specs.declared.event.Event.TheVariants.{Made, Ended}
+use Rattle.size_table.specs.Blocks.{Block}
+use Rattle.rv_machine.specs.declared.frames.Entry.{Entry}
+use Rattle.rv_machine.specs.declared.frames.Entry.TheVariants.{NoFrame, TooDeep, NoRoom, Enters}
+use Rattle.rv_machine.specs.declared.stop.Halt.TheVariants.{Exited, Reported, Trapped}
+use Rattle.rv_machine.specs.Frames.{Entering, Leaving, enter, leave, last_entered}
+use Rattle.rv_machine.specs.State.{State, register_of, next, gives, with_memory, halted, with_core}
 
--- what a run tells the outside, one thing after another: the bytes of its output
+-- what a run tells the outside, one thing after another: the bytes of its output, and events
 pub data Tell : Type 0 where
   Output : (byte : ℕ) → Tell
+  Happens : (event : Event) → Tell
 
 -- the bytes of the output
 abbrev pub output_of : List Tell → List ℕ
 output_of [] = []
 output_of (Output byte ∷ told) = byte ∷ output_of told
+output_of (Happens event ∷ told) = output_of told
+
+-- the events
+abbrev pub events_of : List Tell → List Event
+events_of [] = []
+events_of (Output byte ∷ told) = events_of told
+events_of (Happens event ∷ told) = event ∷ events_of told
 
 -- a machine with the rest of its input and with what it has told
 pub record World : Type 0 where
@@ -21,6 +37,10 @@ pub record World : Type 0 where
 
 abbrev pub with_machine : (State → State) → World → World
 with_machine f w = record w { machine = f w.machine }
+
+-- the machine goes on by f, and tells these events of the state before
+abbrev pub telling : (State → List Event) → (State → State) → World → World
+telling tells f w = record { machine = f w.machine; left = w.left; told = w.told ++ map Happens (tells w.machine) }
 
 -- exit: the status is the low 8 bits of x10
 abbrev pub exits : State → State
@@ -40,10 +60,73 @@ puts w =
     let byte = register_of w.machine.core 10 % 256 in
     record { machine = with_core (gives 10 byte w.machine.core) w.machine; left = w.left; told = w.told ++ Output byte ∷ [] }
 
--- the call whose number is in x17: 1 is exit, 2 getchar, 3 putchar; any other number is a trap
+-- the program or the environment reports, with the line in x11
+abbrev pub reported : ReportKind → State → State
+reported kind s = halted (Reported kind (register_of s.core 11)) (with_core (next s.core) s)
+
+abbrev pub kind_of : ℕ → Option ReportKind
+kind_of number =
+    if number == 1 then Some Bounds
+    else if number == 2 then Some Pointer
+    else if number == 3 then Some DivZero
+    else if number == 4 then Some BadFree
+    else if number == 5 then Some Depth
+    else if number == 6 then Some Stack
+    else None
+
+abbrev pub reported_if : Option ReportKind → State → State
+reported_if None s = halted (Trapped Call) s
+reported_if (Some kind) s = reported kind s
+
+-- report: the kind is in x10; another number is a trap
+abbrev pub reports : State → State
+reports s = reported_if (kind_of (register_of s.core 10)) s
+
+-- enter: frame number x10 is entered, and x10 is the new stack number; a frame that there is not is a trap, and a call
+-- too many, or one that does not fit on the data stack, is reported
+abbrev pub entering : State → Entering
+entering s = enter (slice_get s.frames.layouts (register_of s.core 10)) (register_of s.core 10) s.frames s.core.memory
+
+abbrev pub enters_by : Entry → Entering → State → State
+enters_by NoFrame e s = halted (Trapped Call) s
+enters_by TooDeep e s = reported Depth s
+enters_by NoRoom e s = reported Stack s
+enters_by (Enters base) e s = record s { frames = e.frames; core = gives 10 base (with_memory e.memory s.core) }
+
+abbrev pub enters : State → State
+enters s = enters_by (entering s).answer (entering s) s
+
+abbrev pub made_event : Block → Event
+made_event block = Made block.base block.exponent
+
+abbrev pub enter_events : State → List Event
+enter_events s = map made_event (entering s).blocks
+
+-- leave: the last call entered is left, and x10 is the stack number that it goes back to; where that is no call of
+-- frame number x10, that is a trap
+abbrev pub leaving : State → Leaving
+leaving s = leave (last_entered s.frames) (slice_get s.frames.layouts (register_of s.core 10)) (register_of s.core 10) s.frames s.core.memory
+
+abbrev pub leaves_by : Option ℕ → Leaving → State → State
+leaves_by None l s = halted (Trapped Call) s
+leaves_by (Some back) l s = record s { frames = l.frames; core = gives 10 back (with_memory l.memory s.core) }
+
+abbrev pub leaves : State → State
+leaves s = leaves_by (leaving s).answer (leaving s) s
+
+abbrev pub ended_event : Block → Event
+ended_event block = Ended block.base block.exponent
+
+abbrev pub leave_events : State → List Event
+leave_events s = map ended_event (leaving s).blocks
+
+-- the call whose number is in x17; any other number is a trap
 unfoldable pub calls : World → World
 calls w =
     if register_of w.machine.core 17 == 1 then with_machine exits w
     else if register_of w.machine.core 17 == 2 then gets w
     else if register_of w.machine.core 17 == 3 then puts w
+    else if register_of w.machine.core 17 == 6 then with_machine reports w
+    else if register_of w.machine.core 17 == 7 then telling enter_events enters w
+    else if register_of w.machine.core 17 == 8 then telling leave_events leaves w
     else with_machine (halted (Trapped Call)) w

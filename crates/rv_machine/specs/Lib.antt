@@ -1,8 +1,13 @@
-pub mod Decode
 pub mod State
 pub mod Memory
 pub mod Instruction
+pub mod Blocks
+pub mod Frames
 pub mod Environment
 pub mod Machine
 pub mod Start
 pub mod Runs
+pub mod Live
+pub mod Safety
+pub mod Seen
+pub mod Laws

@@ -4,13 +4,13 @@ use Rattle.rv_image.specs.declared.image.Image.{Image}
 use Rattle.rv_machine.specs.declared.stop.Halt.{Halt}
 use Rattle.rv_machine.specs.declared.stop.Halt.TheVariants as halt
 use Rattle.rv_machine.specs.State.{State, register_of, halted, with_core}
-use Rattle.rv_machine.specs.Instruction.{Act, Goes, Traps, Asks, core_step}
-use Rattle.rv_machine.specs.Environment.{World, with_machine, calls}
+use Rattle.rv_machine.specs.Instruction.{Act, Goes, Traps, Asks, core_step, core_events}
+use Rattle.rv_machine.specs.Environment.{World, with_machine, telling, calls}
 use Rattle.rv_machine.specs.Start.{start}
 
 -- what becomes of a machine by an act
 abbrev pub acted : Act → World → World
-acted (Goes core) w = with_machine (with_core core) w
+acted (Goes core) w = telling (λ s. core_events s.core) (with_core core) w
 acted (Traps kind) w = with_machine (halted (halt.Trapped kind)) w
 acted Asks w = calls w
 

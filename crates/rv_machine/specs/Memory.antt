@@ -1,6 +1,10 @@
 -- Bytes and words in memory.
 use Rattle.std.specs.Prelude.{ℕ, ◌<◌, ◌≤◌, ◌+◌, ◌-◌, ◌^◌, List, [], ◌∷◌, ◌++◌, replicate, slice_index, slice_set}
-use Rattle.std.specs.Int.{from_le_bytes, to_le_bytes, w32}
+use Rattle.std.specs.Int.{from_le_bytes, to_le_bytes, w16, w32}
+
+-- the two bytes at an address as a number, the lower one first
+abbrev pub half_at : List ℕ → ℕ → ℕ
+half_at memory at = from_le_bytes w16 (slice_index memory at ∷ slice_index memory (at + 1) ∷ [])
 
 -- the word at an address, its lowest byte first
 abbrev pub word_at : List ℕ → ℕ → ℕ

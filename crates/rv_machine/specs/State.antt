@@ -1,5 +1,6 @@
 -- What a machine holds.
-use Rattle.std.specs.Prelude.{ℕ, ◌+◌, ◌==◌, if◌then◌else◌, List, Option, Some, None, slice_index, slice_set}
+use Rattle.std.specs.Prelude.{ℕ, ◌+◌, ◌==◌, if◌then◌else◌, List, Option, Some, slice_index, slice_set}
+use Rattle.rv_machine.specs.declared.frames.Entered.{Entered}
 use Rattle.rv_machine.specs.declared.stop.Halt.{Halt}
 
 -- the program counter, the 32 registers and the bytes of the memory
@@ -8,9 +9,17 @@ pub record Core : Type 0 where
   pub registers : List ℕ
   pub memory : List ℕ
 
--- a core, and how the machine has ended, if it has
+-- The frames of the image, each by the exponents of its blocks, the calls that were entered and not left, the last
+-- one last, and the stack number.
+pub record Frames : Type 0 where
+  pub layouts : List (List ℕ)
+  pub entered : List Entered
+  pub stack : ℕ
+
+-- a core, its frames, and how the machine has ended, if it has
 pub record State : Type 0 where
   pub core : Core
+  pub frames : Frames
   pub ending : Option Halt
 
 -- how many bytes the memory has; the number does not unfold by itself, since it is large
@@ -32,6 +41,9 @@ next core = record core { pc = core.pc + 4 }
 -- a register gets a value, and the next instruction comes
 abbrev pub gives : ℕ → ℕ → Core → Core
 gives rd value core = next (set_register rd value core)
+
+abbrev pub with_memory : List ℕ → Core → Core
+with_memory memory core = record core { memory = memory }
 
 -- the machine has ended so
 abbrev pub halted : Halt → State → State

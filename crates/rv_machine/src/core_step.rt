@@ -1,13 +1,17 @@
 //! The registers, the program counter and the memory, and the instructions on them.
-ghost use Rattle.std.specs.Prelude.{◌≡◌, ◌+◌, ◌*◌, ◌<◌, ◌≤◌, ◌^◌, length, slice_index, IfOk};
+ghost use Rattle.std.specs.Prelude.{◌≡◌, ◌+◌, ◌*◌, ◌/◌, ◌%◌, ◌<◌, ◌≤◌, ◌^◌, Bool, List, [], ◌∷◌, length, slice_index, IfOk};
+ghost use Rattle.std.specs.Int.{to_le_bytes, w16, w32};
+ghost use Rattle.rv_code.specs.Bits.{extended};
+ghost use Rattle.rv_code.specs.Code.{Fits};
 ghost use Rattle.rv_image.specs.Rules.{IsImage};
-ghost use Rattle.rv_machine.specs.Decode.{RegistersFit};
 
-use crate::decode::{Instr, decode};
-use crate::memory::{word_at, write_bytes, write_table, write_words, zeros};
+use crate::access::{signed_byte, signed_half, trap_of};
+use crate::memory::{half_at, word_at, write_bytes, write_table, write_words, zeros};
 use crate::stop::Effect;
 use bb_words::kinds::TrapKind;
 use bb_words::word::Word;
+use rv_code::decode::decode;
+use rv_code::instr::Instr;
 use rv_image::image::Image;
 use std::alloc::{AllocError, Global};
 use std::marker::Model;
@@ -21,19 +25,23 @@ pub struct Core {
 }
 
 impl Model for Core {
-    ghost use Rattle.std.specs.Prelude.{◌≡◌, ◌<◌, vec_len};
+    ghost use Rattle.std.specs.Prelude.{◌≡◌, vec_len};
     ghost use Rattle.rv_machine.specs.State.{Core as CoreState};
 
     ghost Value = { CoreState };
 
     ghost view = { λ c. record { pc = c.pc; registers = c.registers; memory = c.memory.items } };
 
-    ghost invariant = { λ c. (vec_len c.memory ≡ 33554432) × (c.pc < 2097156) };
+    ghost invariant = { λ c. vec_len c.memory ≡ 33554432 };
 }
 
 impl Core {
-    ghost use Rattle.rv_machine.specs.State.{register_of, next, gives};
-    ghost use Rattle.rv_machine.specs.Instruction.{effect, core_step, Does};
+    ghost use Rattle.size_table.specs.Blocks.{block_at};
+    ghost use Rattle.size_table.specs.Table.{filled};
+    ghost use Rattle.rv_machine.specs.Blocks.{made, ended};
+    ghost use Rattle.rv_machine.specs.Memory.{half_at, word_at};
+    ghost use Rattle.rv_machine.specs.State.{register_of, set_register, next, gives, with_memory};
+    ghost use Rattle.rv_machine.specs.Instruction.{address, loads, stores, jumps, links, branches, effect, core_step, Does};
     ghost use Rattle.rv_machine.specs.Start.{start};
 
     /// The core at the start of an image. It takes all memory that the machine ever needs.
@@ -87,7 +95,7 @@ impl Core {
                 kind: TrapKind::Fetch,
             };
         }
-        match decode(word_at(&self.memory, self.pc as usize)) {
+        match decode(Word(word_at(&self.memory, self.pc as usize))) {
             None => Effect::Trapped {
                 kind: TrapKind::Illegal,
             },
@@ -95,28 +103,283 @@ impl Core {
         }
     }
 
+    // The table of the instructions, a row for each.
     fn execute(&mut self, instr: Instr) -> Effect
-        requires fit { RegistersFit instr }
+        requires fit { Fits instr }
         requires in_text { self.old.pc < 2097152 }
         ensures { Does self.old self.new result (effect instr self.old) }
     {
         match instr {
-            Instr::Lui { rd, imm } => self.give(rd, imm),
-            Instr::Addi { rd, rs1, imm } => {
-                let sum = Word(self.register(rs1)).add(Word(imm));
-                self.give(rd, sum.0)
+            Instr::Lui { rd, imm } => self.put(rd, Word(imm)),
+            Instr::Auipc { rd, imm } => self.put(rd, Word(self.pc).add(Word(imm))),
+            Instr::Jal { rd, imm } => self.link(rd, Word(self.pc).add(Word(imm)).0),
+            Instr::Jalr { rd, rs1, imm } => self.link(rd, 2 * (self.address(rs1, imm) / 2)),
+            Instr::Beq { rs1, rs2, imm } => {
+                let (left, right) = (self.register(rs1), self.register(rs2));
+                self.branch(left == right, imm)
             }
-            Instr::Add { rd, rs1, rs2 } => {
-                let sum = Word(self.register(rs1)).add(Word(self.register(rs2)));
-                self.give(rd, sum.0)
+            Instr::Bne { rs1, rs2, imm } => {
+                let (left, right) = (self.register(rs1), self.register(rs2));
+                self.branch(left != right, imm)
             }
-            Instr::Sub { rd, rs1, rs2 } => {
-                let difference = Word(self.register(rs1)).sub(Word(self.register(rs2)));
-                self.give(rd, difference.0)
+            Instr::Blt { rs1, rs2, imm } => {
+                let (left, right) = (self.register(rs1), self.register(rs2));
+                self.branch(left.cast_signed() < right.cast_signed(), imm)
             }
-            Instr::Ecall => return Effect::Asked,
+            Instr::Bge { rs1, rs2, imm } => {
+                let (left, right) = (self.register(rs1), self.register(rs2));
+                self.branch(left.cast_signed() >= right.cast_signed(), imm)
+            }
+            Instr::Bltu { rs1, rs2, imm } => {
+                let (left, right) = (self.register(rs1), self.register(rs2));
+                self.branch(left < right, imm)
+            }
+            Instr::Bgeu { rs1, rs2, imm } => {
+                let (left, right) = (self.register(rs1), self.register(rs2));
+                self.branch(left >= right, imm)
+            }
+            Instr::Lb { rd, rs1, imm } => self.load_signed_byte(rd, self.address(rs1, imm)),
+            Instr::Lh { rd, rs1, imm } => self.load_signed_half(rd, self.address(rs1, imm)),
+            Instr::Lw { rd, rs1, imm } => self.load_word(rd, self.address(rs1, imm)),
+            Instr::Lbu { rd, rs1, imm } => self.load_byte(rd, self.address(rs1, imm)),
+            Instr::Lhu { rd, rs1, imm } => self.load_half(rd, self.address(rs1, imm)),
+            Instr::Sb { rs1, rs2, imm } => self.store_byte(
+                self.address(rs1, imm),
+                self.register(rs2),
+            ),
+            Instr::Sh { rs1, rs2, imm } => self.store_half(
+                self.address(rs1, imm),
+                self.register(rs2),
+            ),
+            Instr::Sw { rs1, rs2, imm } => self.store_word(
+                self.address(rs1, imm),
+                self.register(rs2),
+            ),
+            Instr::Addi { rd, rs1, imm } => self.put(rd, self.word(rs1).add(Word(imm))),
+            Instr::Slti { rd, rs1, imm } => self.put(rd, self.word(rs1).lts(Word(imm))),
+            Instr::Sltiu { rd, rs1, imm } => self.put(rd, self.word(rs1).ltu(Word(imm))),
+            Instr::Xori { rd, rs1, imm } => self.put(rd, Word(self.register(rs1) ^ imm)),
+            Instr::Ori { rd, rs1, imm } => self.put(rd, Word(self.register(rs1) | imm)),
+            Instr::Andi { rd, rs1, imm } => self.put(rd, Word(self.register(rs1) & imm)),
+            Instr::Slli { rd, rs1, imm } => self.put(rd, self.word(rs1).shl(Word(imm))),
+            Instr::Srli { rd, rs1, imm } => self.put(rd, self.word(rs1).shr(Word(imm))),
+            Instr::Srai { rd, rs1, imm } => self.put(rd, self.word(rs1).sar(Word(imm))),
+            Instr::Add { rd, rs1, rs2 } => self.put(rd, self.word(rs1).add(self.word(rs2))),
+            Instr::Sub { rd, rs1, rs2 } => self.put(rd, self.word(rs1).sub(self.word(rs2))),
+            Instr::Sll { rd, rs1, rs2 } => self.put(rd, self.word(rs1).shl(self.word(rs2))),
+            Instr::Slt { rd, rs1, rs2 } => self.put(rd, self.word(rs1).lts(self.word(rs2))),
+            Instr::Sltu { rd, rs1, rs2 } => self.put(rd, self.word(rs1).ltu(self.word(rs2))),
+            Instr::Srl { rd, rs1, rs2 } => self.put(rd, self.word(rs1).shr(self.word(rs2))),
+            Instr::Sra { rd, rs1, rs2 } => self.put(rd, self.word(rs1).sar(self.word(rs2))),
+            Instr::Xor { rd, rs1, rs2 } => self.put(
+                rd,
+                Word(self.register(rs1) ^ self.register(rs2)),
+            ),
+            Instr::Or { rd, rs1, rs2 } => self.put(
+                rd,
+                Word(self.register(rs1) | self.register(rs2)),
+            ),
+            Instr::And { rd, rs1, rs2 } => self.put(
+                rd,
+                Word(self.register(rs1) & self.register(rs2)),
+            ),
+            Instr::Mul { rd, rs1, rs2 } => self.put(rd, self.word(rs1).mul(self.word(rs2))),
+            Instr::Mulh { rd, rs1, rs2 } => self.put(rd, self.word(rs1).mulh(self.word(rs2))),
+            Instr::Mulhsu { rd, rs1, rs2 } => self.put(rd, self.word(rs1).mulhsu(self.word(rs2))),
+            Instr::Mulhu { rd, rs1, rs2 } => self.put(rd, self.word(rs1).mulhu(self.word(rs2))),
+            Instr::Div { rd, rs1, rs2 } => self.put(rd, self.word(rs1).div(self.word(rs2))),
+            Instr::Divu { rd, rs1, rs2 } => self.put(rd, self.word(rs1).divu(self.word(rs2))),
+            Instr::Rem { rd, rs1, rs2 } => self.put(rd, self.word(rs1).rem(self.word(rs2))),
+            Instr::Remu { rd, rs1, rs2 } => self.put(rd, self.word(rs1).remu(self.word(rs2))),
+            Instr::Fence { .. } => {
+                self.pass();
+                Effect::Went
+            }
+            Instr::Ecall => Effect::Asked,
+            Instr::Ebreak => Effect::Trapped {
+                kind: TrapKind::Break,
+            },
         }
+    }
+
+    fn word(&self, at: u8) -> Word
+        requires { at < 32 }
+        ensures { result.0 ≡ register_of self.now at }
+    {
+        Word(self.registers[at as usize])
+    }
+
+    // A register plus an immediate.
+    fn address(&self, rs1: u8, imm: u32) -> u32
+        requires { rs1 < 32 }
+        ensures { result ≡ address self.now rs1 imm }
+    {
+        self.word(rs1).add(Word(imm)).0
+    }
+
+    // A register gets a value.
+    fn put(&mut self, rd: u8, value: Word) -> Effect
+        requires within { rd < 32 }
+        requires in_text { self.old.pc < 2097152 }
+        ensures went { result ≡ Effect.Went }
+        ensures value { self.new ≡ gives rd value.0 self.old }
+    {
+        self.give(rd, value.0);
         Effect::Went
+    }
+
+    fn jump(&mut self, to: u32) -> Effect
+        ensures { Does self.old self.new result (jumps to self.old) }
+    {
+        if to % 4 != 0 {
+            return Effect::Trapped {
+                kind: TrapKind::Fetch,
+            };
+        }
+        self.pc = to;
+        Effect::Went
+    }
+
+    // A jump that leaves the address of the next instruction in a register.
+    fn link(&mut self, rd: u8, to: u32) -> Effect
+        requires within { rd < 32 }
+        requires in_text { self.old.pc < 2097152 }
+        ensures { Does self.old self.new result (links rd to self.old) }
+    {
+        if to % 4 != 0 {
+            return Effect::Trapped {
+                kind: TrapKind::Fetch,
+            };
+        }
+        self.set(rd, self.pc + 4);
+        self.pc = to;
+        Effect::Went
+    }
+
+    fn branch(&mut self, taken: bool, imm: u32) -> Effect
+        requires { self.old.pc < 2097152 }
+        ensures { Does self.old self.new result (branches taken imm self.old) }
+    {
+        if taken {
+            self.jump(Word(self.pc).add(Word(imm)).0)
+        } else {
+            self.pass();
+            Effect::Went
+        }
+    }
+
+    fn load_signed_byte(&mut self, rd: u8, at: u32) -> Effect
+        requires within { rd < 32 }
+        requires in_text { self.old.pc < 2097152 }
+        ensures { Does self.old self.new result (loads rd at 1 (extended 8 (slice_index self.old.memory at)) self.old) }
+    {
+        match trap_of(at, 1) {
+            Some(kind) => Effect::Trapped { kind },
+            None => {
+                let value = signed_byte(self.memory[at as usize]);
+                self.put(rd, Word(value))
+            }
+        }
+    }
+
+    fn load_signed_half(&mut self, rd: u8, at: u32) -> Effect
+        requires within { rd < 32 }
+        requires in_text { self.old.pc < 2097152 }
+        ensures { Does self.old self.new result (loads rd at 2 (extended 16 (half_at self.old.memory at)) self.old) }
+    {
+        match trap_of(at, 2) {
+            Some(kind) => Effect::Trapped { kind },
+            None => {
+                let value = signed_half(half_at(&self.memory, at as usize));
+                self.put(rd, Word(value))
+            }
+        }
+    }
+
+    fn load_word(&mut self, rd: u8, at: u32) -> Effect
+        requires within { rd < 32 }
+        requires in_text { self.old.pc < 2097152 }
+        ensures { Does self.old self.new result (loads rd at 4 (word_at self.old.memory at) self.old) }
+    {
+        match trap_of(at, 4) {
+            Some(kind) => Effect::Trapped { kind },
+            None => {
+                let value = word_at(&self.memory, at as usize);
+                self.put(rd, Word(value))
+            }
+        }
+    }
+
+    fn load_byte(&mut self, rd: u8, at: u32) -> Effect
+        requires within { rd < 32 }
+        requires in_text { self.old.pc < 2097152 }
+        ensures { Does self.old self.new result (loads rd at 1 (slice_index self.old.memory at) self.old) }
+    {
+        match trap_of(at, 1) {
+            Some(kind) => Effect::Trapped { kind },
+            None => {
+                let value = self.memory[at as usize] as u32;
+                self.put(rd, Word(value))
+            }
+        }
+    }
+
+    fn load_half(&mut self, rd: u8, at: u32) -> Effect
+        requires within { rd < 32 }
+        requires in_text { self.old.pc < 2097152 }
+        ensures { Does self.old self.new result (loads rd at 2 (half_at self.old.memory at) self.old) }
+    {
+        match trap_of(at, 2) {
+            Some(kind) => Effect::Trapped { kind },
+            None => {
+                let value = half_at(&self.memory, at as usize) as u32;
+                self.put(rd, Word(value))
+            }
+        }
+    }
+
+    fn store_byte(&mut self, at: u32, value: u32) -> Effect
+        requires { self.old.pc < 2097152 }
+        ensures { Does self.old self.new result (stores at 1 (value % 256 ∷ []) self.old) }
+    {
+        match trap_of(at, 1) {
+            Some(kind) => Effect::Trapped { kind },
+            None => {
+                self.memory[at as usize] = (value % 256) as u8;
+                self.pass();
+                Effect::Went
+            }
+        }
+    }
+
+    fn store_half(&mut self, at: u32, value: u32) -> Effect
+        requires { self.old.pc < 2097152 }
+        ensures { Does self.old self.new result (stores at 2 (to_le_bytes w16 (value % 65536)) self.old) }
+    {
+        match trap_of(at, 2) {
+            Some(kind) => Effect::Trapped { kind },
+            None => {
+                let bytes = ((value % 65536) as u16).to_le_bytes();
+                write_bytes(&mut self.memory, at as usize, &bytes);
+                self.pass();
+                Effect::Went
+            }
+        }
+    }
+
+    fn store_word(&mut self, at: u32, value: u32) -> Effect
+        requires { self.old.pc < 2097152 }
+        ensures { Does self.old self.new result (stores at 4 (to_le_bytes w32 value) self.old) }
+    {
+        match trap_of(at, 4) {
+            Some(kind) => Effect::Trapped { kind },
+            None => {
+                let bytes = value.to_le_bytes();
+                write_bytes(&mut self.memory, at as usize, &bytes);
+                self.pass();
+                Effect::Went
+            }
+        }
     }
 
     /// A register gets a value, and the next instruction comes.
@@ -125,10 +388,18 @@ impl Core {
         requires in_text { self.old.pc < 2097152 }
         ensures { self.new ≡ gives rd value self.old }
     {
+        self.set(rd, value);
+        self.pc += 4;
+    }
+
+    // A register gets a value; register 0 stays 0.
+    fn set(&mut self, rd: u8, value: u32)
+        requires { rd < 32 }
+        ensures { self.new ≡ set_register rd value self.old }
+    {
         if rd != 0 {
             self.registers[rd as usize] = value;
         }
-        self.pc += 4;
     }
 
     /// The next instruction comes.
@@ -137,5 +408,41 @@ impl Core {
         ensures { self.new ≡ next self.old }
     {
         self.pc += 4;
+    }
+
+    #[tactic(auto, unfolding(size_table::specs::Table::filled))]
+    fn fill(&mut self, at: usize, count: usize, byte: u8)
+        requires { at + count ≤ 33554432 }
+        ensures { self.new ≡ with_memory (filled self.old.memory at count byte) self.old }
+    {
+        self.memory[at..at + count].fill(byte);
+    }
+
+    // Writes a byte for each slot of a block into the size table.
+    fn table(&mut self, base: u32, exponent: u8, byte: u8)
+        requires { (4 ≤ exponent) × (exponent ≤ 24) × (base + 2 ^ exponent ≤ 33554432) }
+        ensures { self.new ≡ with_memory (filled self.old.memory (2097152 + base / 16) (2 ^ exponent / 16) byte) self.old }
+    {
+        let size = 1usize << exponent;
+        self.fill(0x20_0000 + base as usize / 16, size / 16, byte);
+    }
+
+    /// Makes a block: its bytes are zero, and the size table has its exponent.
+    #[tactic(auto, unfolding(crate::specs::Blocks::made))]
+    pub(crate) fn make(&mut self, base: u32, exponent: u8)
+        requires { (4 ≤ exponent) × (exponent ≤ 24) × (base + 2 ^ exponent ≤ 33554432) }
+        ensures { self.new ≡ with_memory (made (block_at base exponent) self.old.memory) self.old }
+    {
+        self.fill(base as usize, 1 << exponent, 0);
+        self.table(base, exponent, exponent);
+    }
+
+    /// Ends a block: the size table has 0 for it, and its bytes stay.
+    #[tactic(auto, unfolding(crate::specs::Blocks::ended))]
+    pub(crate) fn end(&mut self, base: u32, exponent: u8)
+        requires { (4 ≤ exponent) × (exponent ≤ 24) × (base + 2 ^ exponent ≤ 33554432) }
+        ensures { self.new ≡ with_memory (ended (block_at base exponent) self.old.memory) self.old }
+    {
+        self.table(base, exponent, 0);
     }
 }

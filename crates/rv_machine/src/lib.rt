@@ -1,8 +1,13 @@
-//! The machine: an emulator of RV32I that runs an image.
+//! The machine: an emulator of RV32IM with the environment calls of compiled code, that runs an image.
 #![tactic(auto)]
 
+mod access;
+mod blocks;
 mod core_step;
-mod decode;
+mod frames;
+pub mod laws;
 pub mod machine;
 mod memory;
 pub mod stop;
+#[cfg(test)]
+mod tests;

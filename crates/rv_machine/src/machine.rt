@@ -2,20 +2,23 @@
 ghost use Rattle.std.specs.Prelude.{◌≡◌, ◌<◌, ℕ, Bool, List, Option, None, slice_index, IfOk};
 ghost use Rattle.bb_outside.specs.Causes.{HasCause};
 ghost use Rattle.rv_image.specs.Rules.{IsImage};
+ghost use Rattle.rv_machine.specs.Environment.{kind_of};
 
 use crate::core_step::Core;
+use crate::frames::{Entry, Frames};
 use crate::stop::{Effect, Fault, Halt, Stop};
 use bb_outside::{Sink, SinkFailed, Source, SourceFailed};
-use bb_words::kinds::TrapKind;
+use bb_words::kinds::{ReportKind, TrapKind};
 use bb_words::word::Word;
 use rv_image::image::Image;
 use std::alloc::{AllocError, Global};
 use std::marker::Model;
 
-/// A machine: its registers, its memory, and how it has ended, if it has.
+/// A machine: its registers, its memory, the calls entered, and how it has ended, if it has.
 #[derive(Drop)]
 pub struct Machine {
     core: Core,
+    frames: Frames,
     ended: Option<Halt>,
 }
 
@@ -24,13 +27,14 @@ impl Model for Machine {
 
     ghost Value = { State };
 
-    ghost view = { λ m. record { core = m.core; ending = m.ended } };
+    ghost view = { λ m. record { core = m.core; frames = m.frames; ending = m.ended } };
 }
 
 impl Machine {
-    ghost use Rattle.rv_machine.specs.State.{register_of};
+    ghost use Rattle.rv_machine.specs.declared.stop.Halt.TheVariants.{Trapped};
+    ghost use Rattle.rv_machine.specs.State.{register_of, halted};
     ghost use Rattle.rv_machine.specs.Instruction.{Asks, core_step};
-    ghost use Rattle.rv_machine.specs.Environment.{calls, exits, gets, puts};
+    ghost use Rattle.rv_machine.specs.Environment.{calls, exits, gets, puts, reported, reports, enters, leaves};
     ghost use Rattle.rv_machine.specs.Machine.{step};
     ghost use Rattle.rv_machine.specs.Start.{start};
     ghost use Rattle.rv_machine.specs.Runs.{Answered, Stepped, Stops, FaultCause, fault_of, stop_of};
@@ -42,7 +46,12 @@ impl Machine {
         ensures { IfOk result (λ machine. machine ≡ start image.now) }
     {
         let core = Core::new(alloc, image)?;
-        Ok(Machine { core, ended: None })
+        let frames = Frames::new(alloc, &image.frames)?;
+        Ok(Machine {
+            core,
+            frames,
+            ended: None,
+        })
     }
 
     /// Executes at most n further instructions. A machine that has ended stays as it is. After a fault a further run
@@ -110,7 +119,7 @@ impl Machine {
         match self.core.step() {
             Effect::Went => None,
             Effect::Trapped { kind } => {
-                self.ended = Some(Halt::Trapped { kind });
+                self.trap(kind);
                 None
             }
             Effect::Asked => self.call(input, output),
@@ -140,12 +149,76 @@ impl Machine {
                 Ok(()) => None,
                 Err(_) => Some(Fault::Write),
             },
-            _ => {
-                self.ended = Some(Halt::Trapped {
-                    kind: TrapKind::Call,
-                });
+            6 => {
+                self.report();
                 None
             }
+            7 => {
+                self.enter();
+                None
+            }
+            8 => {
+                self.leave();
+                None
+            }
+            _ => {
+                self.trap(TrapKind::Call);
+                None
+            }
+        }
+    }
+
+    // The instruction could not be executed.
+    fn trap(&mut self, kind: TrapKind)
+        ensures { self.new ≡ halted (Trapped kind) self.old }
+    {
+        self.ended = Some(Halt::Trapped { kind });
+    }
+
+    // The run ends by a report, with the line in x11.
+    fn end_by(&mut self, kind: ReportKind)
+        requires { self.old.core.pc < 2097152 }
+        ensures { self.new ≡ reported kind self.old }
+    {
+        let line = self.core.register(11);
+        self.core.pass();
+        self.ended = Some(Halt::Reported { kind, line });
+    }
+
+    // The program reports a kind by its number in x10.
+    fn report(&mut self)
+        requires { self.old.core.pc < 2097152 }
+        ensures { self.new ≡ reports self.old }
+    {
+        match kind_of(self.core.register(10)) {
+            Some(kind) => self.end_by(kind),
+            None => self.trap(TrapKind::Call),
+        }
+    }
+
+    // Enters the frame whose number is in x10, and x10 becomes the new stack number.
+    fn enter(&mut self)
+        requires { self.old.core.pc < 2097152 }
+        ensures { self.new ≡ enters self.old }
+    {
+        let frame = self.core.register(10);
+        match self.frames.enter(&mut self.core, frame) {
+            Entry::NoFrame => self.trap(TrapKind::Call),
+            Entry::TooDeep => self.end_by(ReportKind::Depth),
+            Entry::NoRoom => self.end_by(ReportKind::Stack),
+            Entry::Enters(stack) => self.core.give(10, stack),
+        }
+    }
+
+    // Leaves the frame whose number is in x10, and x10 becomes the stack number that it goes back to.
+    fn leave(&mut self)
+        requires { self.old.core.pc < 2097152 }
+        ensures { self.new ≡ leaves self.old }
+    {
+        let frame = self.core.register(10);
+        match self.frames.leave(&mut self.core, frame) {
+            Some(back) => self.core.give(10, back),
+            None => self.trap(TrapKind::Call),
         }
     }
 
@@ -198,55 +271,17 @@ impl Machine {
     }
 }
 
-#[cfg(test)]
-mod tests {
-    use super::*;
-    use bb_outside::mem_sink::MemSink;
-    use bb_outside::mem_source::MemSource;
-    use bb_words::list::List;
-    use std::test::Fail;
-
-    // getchar, putchar, and exit with what putchar left in x10.
-    fn echo(alloc: Global) -> Result<Image, AllocError>
-        ensures { IfOk result (λ image. IsImage image) }
-    {
-        let words = [
-            0x0020_0893u32,
-            0x0000_0073,
-            0x0030_0893,
-            0x0000_0073,
-            0x0010_0893,
-            0x0000_0073,
-        ];
-        Ok(Image {
-            version: 1,
-            entry: 0x1000,
-            globals: List::new(alloc),
-            frames: List::new(alloc),
-            initial: List::new(alloc),
-            text: List::from_vec(Vec::from_slice(alloc, &words)?),
-        })
-    }
-
-    #[test]
-    fn runs_in_pieces(rt: HostRuntime) -> Result<(), Fail> {
-        let alloc = rt.alloc();
-        let mut machine = Machine::new(alloc, &echo(alloc)?)?;
-        // The first take of the input and the first put of the output fail.
-        let mut input = MemSource::new(alloc, b"AB", &[0])?;
-        let mut output = MemSink::new(alloc, 10, &[0])?;
-        assert_eq!(rt; machine.run(1, &mut input, &mut output), Stop::OutOfSteps);
-        assert_eq!(rt; machine.run(9, &mut input, &mut output), Stop::ReadFault);
-        assert_eq!(rt; machine.pc(), 0x1004);
-        assert_eq!(rt; machine.run(9, &mut input, &mut output), Stop::WriteFault);
-        assert_eq!(rt; machine.pc(), 0x100C);
-        assert_eq!(rt; machine.register(10).0, 65);
-        assert_eq!(rt; machine.run(2, &mut input, &mut output), Stop::OutOfSteps);
-        assert_eq!(rt; output.bytes(), b"A".as_slice());
-        assert_eq!(rt; machine.run(1, &mut input, &mut output), Stop::Exited(65));
-        assert_eq!(rt; machine.run(5, &mut input, &mut output), Stop::Exited(65));
-        assert_eq!(rt; machine.byte(0x1000), 0x93);
-        assert_eq!(rt; machine.pc(), 0x1018);
-        Ok(())
+// The kind of a report by its number.
+fn kind_of(number: u32) -> Option<ReportKind>
+    ensures { result ≡ kind_of number }
+{
+    match number {
+        1 => Some(ReportKind::Bounds),
+        2 => Some(ReportKind::Pointer),
+        3 => Some(ReportKind::DivZero),
+        4 => Some(ReportKind::BadFree),
+        5 => Some(ReportKind::Depth),
+        6 => Some(ReportKind::Stack),
+        _ => None,
     }
 }

@@ -1,7 +1,7 @@
 //! Bytes and words in memory.
 ghost use Rattle.std.specs.Prelude.{◌≡◌, ◌+◌, ◌-◌, ◌*◌, ◌^◌, ◌≤◌, length, replicate, vec_len, IfOk, All};
 ghost use Rattle.rv_machine.specs.State.{memory_size};
-ghost use Rattle.rv_machine.specs.Memory.{word_at, written_at, bytes_of_words, table_bytes, IsExponent};
+ghost use Rattle.rv_machine.specs.Memory.{half_at, word_at, written_at, bytes_of_words, table_bytes, IsExponent};
 
 use std::alloc::{AllocError, Global};
 
@@ -22,6 +22,14 @@ fn zeros_of(alloc: Global, count: usize) -> Result<Vec<u8>, AllocError>
     ensures len { IfOk result (λ memory. vec_len memory ≡ count) }
 {
     vec![in alloc; 0u8; count]
+}
+
+/// The two bytes at an address, the lower one first.
+pub(crate) fn half_at(memory: &[u8], at: usize) -> u16
+    requires { at + 2 ≤ length memory.now }
+    ensures { result ≡ half_at memory.now at }
+{
+    u16::from_le_bytes([memory[at], memory[at + 1]])
 }
 
 /// The word at an address.

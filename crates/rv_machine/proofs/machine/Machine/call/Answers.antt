@@ -1,8 +1,8 @@
-use Rattle.std.proofs.Common.{◌≡◌, ◌≢◌, ℕ, refl, sym, ap, ◌∙◌, arith}
+use Rattle.std.proofs.Common.{◌≡◌, refl, sym, ap, ◌∙◌, arith}
 use Rattle.rv_machine.specs.State.{State, register_of}
 use Rattle.rv_machine.specs.Environment.{calls}
 use Rattle.rv_machine.proofs.Outside.{ran_at}
-use Rattle.rv_machine.proofs.Calls.{call_exits, call_gets, call_puts, call_traps, call_failed}
+use Rattle.rv_machine.proofs.Calls.{IsNoCall, call_exits, call_gets, call_puts, call_reports, call_enters, call_leaves, call_traps, call_failed}
 use Rattle.rv_machine.proofs.machine.Machine.call.Goals as goal
 
 pub returns-in-1-clause-stepped : goal.returns-in-1-clause-stepped
@@ -30,10 +30,30 @@ returns-in-Err-putchar-clause-stepped g c =
     let is = ap (λ (x : State). register_of x.core 17) (sym c.self.view_is) ∙ sym c.register.ensures ∙ c.in-3.is in
     call_failed 3 _ _ _ _ c.requires.running c.requires.asks is (c.in-Err-putchar.ensures.answered (g.I.Source.left c.args.input.now) (g.I.Source.is_over c.args.input.now))
 
+pub returns-in-6-clause-stepped : goal.returns-in-6-clause-stepped
+returns-in-6-clause-stepped g c =
+    let is = ap (λ (x : State). register_of x.core 17) (sym c.self.view_is) ∙ sym c.register.ensures ∙ c.in-6.is in
+    ran_at calls _ _ _ _ _ _ refl (sym c.report.ensures) (call_reports c.args.self.now _ is)
+
+pub returns-in-7-clause-stepped : goal.returns-in-7-clause-stepped
+returns-in-7-clause-stepped g c =
+    let is = ap (λ (x : State). register_of x.core 17) (sym c.self.view_is) ∙ sym c.register.ensures ∙ c.in-7.is in
+    ran_at calls _ _ _ _ _ _ refl (sym c.enter.ensures) (call_enters c.args.self.now _ is)
+
+pub returns-in-8-clause-stepped : goal.returns-in-8-clause-stepped
+returns-in-8-clause-stepped g c =
+    let is = ap (λ (x : State). register_of x.core 17) (sym c.self.view_is) ∙ sym c.register.ensures ∙ c.in-8.is in
+    ran_at calls _ _ _ _ _ _ refl (sym c.leave.ensures) (call_leaves c.args.self.now _ is)
+
 pub returns-in_default-clause-stepped : goal.returns-in_default-clause-stepped
 returns-in_default-clause-stepped g c =
-    let s : State = record { core = c.self.inside.core; ending = c.self.inside.ended } in
-    let not_1 : register_of s.core 17 ≢ 1 = grind (arith, c.register.ensures, c.in_default) in
-    let not_2 : register_of s.core 17 ≢ 2 = grind (arith, c.register.ensures, c.in_default) in
-    let not_3 : register_of s.core 17 ≢ 3 = grind (arith, c.register.ensures, c.in_default) in
-    ran_at calls s _ _ _ _ _ c.self.view_is refl (call_traps s _ not_1 not_2 not_3)
+    let is : register_of c.args.self.now.core 17 ≡ c.register.result = ap (λ (x : State). register_of x.core 17) (sym c.self.view_is) ∙ sym c.register.ensures in
+    let none : IsNoCall (register_of c.args.self.now.core 17) = record {
+      not_1 = grind (arith, is, c.in_default);
+      not_2 = grind (arith, is, c.in_default);
+      not_3 = grind (arith, is, c.in_default);
+      not_6 = grind (arith, is, c.in_default);
+      not_7 = grind (arith, is, c.in_default);
+      not_8 = grind (arith, is, c.in_default);
+    } in
+    ran_at calls _ _ _ _ _ _ refl (sym c.trap.ensures) (call_traps c.args.self.now _ none)

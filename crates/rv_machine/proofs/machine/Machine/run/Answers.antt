@@ -1,8 +1,6 @@
-use Rattle.std.proofs.Common.{◌≡◌, ◌≤◌, sym, ap, subst, ◌∙◌, arith}
+use Rattle.std.proofs.Common.{◌≡◌, ◌≤◌, sym, subst, ◌∙◌, arith}
 use Rattle.std.specs.Prelude.{IsSome}
 use Rattle.rv_machine.specs.State.{State}
-use Rattle.rv_machine.specs.Machine.{IsBeforeCall}
-use Rattle.rv_machine.specs.Runs.{Stops, FaultCause, fault_of, stop_of}
 use Rattle.rv_machine.proofs.Runs.{ran_none, ran_more, ran_still, ran_ended, ran_all, ran_stops, no_fault}
 use Rattle.rv_machine.proofs.machine.Machine.run.Goals as goal
 

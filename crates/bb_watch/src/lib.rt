@@ -1,0 +1,4 @@
+//! The events of a run.
+#![tactic(auto)]
+
+pub mod event;

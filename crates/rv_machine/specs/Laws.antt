@@ -1,0 +1,47 @@
+-- The laws of the machine.
+use Rattle.std.specs.Prelude.{◌≡◌, ◌==◌, ℕ, ◌+◌, ◌%◌, ◌≤◌, ◌<◌, ◌^◌, List, [], ◌∷◌, ◌++◌, map, Option, Some, None, IsSome, if◌then◌else◌}
+use Rattle.rv_code.specs.Code.{Fits}
+use Rattle.rv_code.specs.declared.instr.Instr.{Instr}
+use Rattle.rv_machine.specs.declared.stop.Halt.{Halt}
+use Rattle.rv_machine.specs.State.{Core, State, register_of}
+use Rattle.rv_machine.specs.Memory.{word_at}
+use Rattle.rv_machine.specs.Instruction.{Act, Goes, Traps, Asks, core_step, core_events, instruction_at}
+use Rattle.rv_machine.specs.Environment.{Tell, Output, Happens, World, enter_events, leave_events}
+use Rattle.rv_machine.specs.Machine.{step, steps}
+
+-- a machine that has ended stays as it is
+abbrev pub EndingStays : Type 0
+EndingStays = (n k : ℕ) (w : World) → IsSome (steps k w).machine.ending → k ≤ n → steps n w ≡ steps k w
+
+-- what an environment call tells: putchar its byte, and enter and leave the blocks that they make and end
+abbrev pub call_tells : State → List Tell
+call_tells s =
+    if register_of s.core 17 == 3 then Output (register_of s.core 10 % 256) ∷ []
+    else if register_of s.core 17 == 7 then map Happens (enter_events s)
+    else if register_of s.core 17 == 8 then map Happens (leave_events s)
+    else []
+
+abbrev pub act_tells : Act → State → List Tell
+act_tells (Goes core) s = map Happens (core_events s.core)
+act_tells (Traps kind) s = []
+act_tells Asks s = call_tells s
+
+abbrev pub tells_unless_ended : Option Halt → State → List Tell
+tells_unless_ended None s = act_tells (core_step s.core) s
+tells_unless_ended (Some halt) s = []
+
+-- what a machine's next instruction tells
+abbrev pub tells_of : State → List Tell
+tells_of s = tells_unless_ended s.ending s
+
+-- an instruction appends to what was told what the state before it gives
+abbrev pub StepTells : Type 0
+StepTells = (w : World) → (step w).told ≡ w.told ++ tells_of w.machine
+
+-- what was told stays told
+abbrev pub ToldGrows : Type 0
+ToldGrows = (k d : ℕ) (w : World) → (more : List Tell) × ((steps (k + d) w).told ≡ (steps k w).told ++ more)
+
+-- the fields of an instruction that is fetched fit
+abbrev pub FieldsFit : Type 0
+FieldsFit = (c : Core) (i : Instr) → word_at c.memory c.pc < 2 ^ 32 → instruction_at c ≡ Some i → Fits i

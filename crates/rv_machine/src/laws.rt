@@ -1,0 +1,22 @@
+//! The laws of the machine, for what stands on it.
+ghost use Rattle.rv_machine.specs.Laws.{EndingStays, StepTells, ToldGrows, FieldsFit};
+
+/// A machine that has ended stays as it is.
+pub fn ending_stays()
+    ensures { EndingStays }
+{}
+
+/// What an instruction tells is given by the state before it, and comes after all that was told.
+pub fn step_tells()
+    ensures { StepTells }
+{}
+
+/// What was told stays told.
+pub fn told_grows()
+    ensures { ToldGrows }
+{}
+
+/// The fields of an instruction that is fetched fit.
+pub fn fields_fit()
+    ensures { FieldsFit }
+{}
