@@ -6,3 +6,4 @@ pub mod Tables
 pub mod Programs
 pub mod Layouts
 pub mod Tells
+pub mod Bounds
