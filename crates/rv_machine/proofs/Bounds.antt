@@ -1,17 +1,15 @@
 -- What the operations of words answer is a word.
 use Rattle.std.proofs.Common.{◌≡◌, ℕ, ◌+◌, ◌-◌, ◌*◌, ◌/◌, ◌%◌, ◌^◌, ◌<◌, ◌≤◌, Bool, true, false, cond, eqb, ltb, zero, suc, refl, arith, lit<}
-use Rattle.std.specs.Prelude.{bit_and, bit_or, bit_xor, ℤ, pos, negsuc, ◌*ℤ◌, neg_ℤ}
+use Rattle.std.specs.Prelude.{bit_and, bit_or, bit_xor, ℤ, pos, negsuc, ◌*ℤ◌, neg_ℤ, nat_abs, int_div, int_rem}
 use Rattle.std.proofs.lemmas.Nat.{mul-lt, or_lt, xor_lt}
 use mir.Val.{sel}
 use Rattle.std.specs.Int.Bits.{and_lt}
 use Rattle.std.proofs.lemmas.Bool.Decides.{nat_tests}
 use Rattle.std.proofs.Math.Nat.{div-le_self}
-use Rattle.bb_words.specs.Numbers.{sum, difference, product, unsigned_high_product, unsigned_quotient, unsigned_remainder, left_shift, right_shift, unsigned_below, signed_below, signed, word_of, floor_shift, signed_right_shift, signed_high_product, mixed_high_product, all_ones}
+use Rattle.rv_machine.specs.Formed.{IsWord}
+use Rattle.bb_words.specs.Numbers.{sum, difference, product, unsigned_high_product, unsigned_quotient, unsigned_remainder, left_shift, right_shift, unsigned_below, signed_below, signed, word_of, floor_shift, signed_right_shift, signed_high_product, mixed_high_product, signed_quotient, signed_remainder, all_ones}
 
-abbrev pub IsWord : ℕ → Type 0
-IsWord n = n < 2 ^ 32
-
-either : (b : Bool) (u v : ℕ) → IsWord u → IsWord v → IsWord (cond b u v)
+pub either : (b : Bool) (u v : ℕ) → IsWord u → IsWord v → IsWord (cond b u v)
 either true u v p q = p
 either false u v p q = q
 
@@ -120,3 +118,29 @@ mixed_high (negsuc a) b p q = negative_high (suc a * b)
 pub mixed_high_fits : (a b : ℕ) → IsWord a → IsWord b → IsWord (mixed_high_product a b)
 unfolding mixed_high_product
 mixed_high_fits a b p q = word_of_fits (floor_shift (signed a *ℤ pos b) 32) (upper_low (signed a *ℤ pos b) (mixed_high (signed a) b (signed_bounded a p) q))
+
+negative_low : (n : ℕ) → IsLow (neg_ℤ (pos n))
+negative_low zero = lit< tt
+negative_low (suc n) = tt
+
+quotient_low : (x y : ℤ) → IsBounded x → IsLow (int_div x y)
+quotient_low (pos a) (pos b) h = let l = div-le_self a b in omega (arith, l, h)
+quotient_low (pos a) (negsuc b) h = negative_low (a / suc b)
+quotient_low (negsuc a) (pos b) h = negative_low (suc a / b)
+quotient_low (negsuc a) (negsuc b) h = let l = div-le_self (suc a) (suc b) in omega (arith, l, h)
+
+remainder_low : (x y : ℤ) → IsBounded x → IsLow (int_rem x y)
+remainder_low (pos a) y h = let l = remainder_le a (nat_abs y) in omega (arith, l, h)
+remainder_low (negsuc a) y h = negative_low (suc a % nat_abs y)
+
+pub signed_quotient_fits : (a b : ℕ) → IsWord a → IsWord (signed_quotient a b)
+unfolding signed_quotient
+signed_quotient_fits a b p =
+    let q = word_of_fits (int_div (signed a) (signed b)) (quotient_low (signed a) (signed b) (signed_bounded a p)) in
+    either (eqb b 0) all_ones (word_of (int_div (signed a) (signed b))) (lit< tt) q
+
+pub signed_remainder_fits : (a b : ℕ) → IsWord a → IsWord (signed_remainder a b)
+unfolding signed_remainder
+signed_remainder_fits a b p =
+    let q = word_of_fits (int_rem (signed a) (signed b)) (remainder_low (signed a) (signed b) (signed_bounded a p)) in
+    either (eqb b 0) a (word_of (int_rem (signed a) (signed b))) p q

@@ -7,3 +7,4 @@ pub mod Programs
 pub mod Layouts
 pub mod Tells
 pub mod Bounds
+pub mod Cores

@@ -1,5 +1,6 @@
 //! The laws of the machine, for what stands on it.
 ghost use Rattle.rv_machine.specs.Laws.{EndingStays, StepTells, ToldGrows, FieldsFit, InstructionDone, WordReadBack};
+ghost use Rattle.rv_machine.specs.Formed.{CoreStays};
 
 /// A machine that has ended stays as it is.
 pub fn ending_stays()
@@ -29,4 +30,9 @@ pub fn instruction_done()
 /// A word that was written is read back.
 pub fn word_read_back()
     ensures { WordReadBack }
+{}
+
+/// An instruction keeps 32 registers with words in them, register 0 at 0, and the memory's size and bytes.
+pub fn core_stays()
+    ensures { CoreStays }
 {}
