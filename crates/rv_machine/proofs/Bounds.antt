@@ -1,5 +1,5 @@
 -- What the operations of words answer is a word.
-use Rattle.std.proofs.Common.{◌≡◌, ℕ, ◌+◌, ◌-◌, ◌*◌, ◌/◌, ◌%◌, ◌^◌, ◌<◌, ◌≤◌, Bool, true, false, cond, eqb, ltb, zero, suc, refl, arith, lit<}
+use Rattle.std.proofs.Common.{◌≡◌, ℕ, ◌-◌, ◌*◌, ◌/◌, ◌%◌, ◌^◌, ◌<◌, ◌≤◌, Bool, true, false, cond, eqb, ltb, zero, suc, refl, arith, lit<}
 use Rattle.std.specs.Prelude.{bit_and, bit_or, bit_xor, ℤ, pos, negsuc, ◌*ℤ◌, neg_ℤ, nat_abs, int_div, int_rem}
 use Rattle.std.proofs.lemmas.Nat.{mul-lt, or_lt, xor_lt}
 use mir.Val.{sel}

@@ -1,5 +1,5 @@
 -- An instruction keeps what holds of the core of every machine.
-use Rattle.std.proofs.Common.{◌≡◌, ◌≢◌, ℕ, zero, suc, ◌+◌, ◌-◌, ◌*◌, ◌/◌, ◌%◌, ◌^◌, ◌<◌, ◌≤◌, Bool, true, false, cond, eqb, ltb, leb, List, [], ◌∷◌, length, get_or, set, Option, Some, None, refl, sym, ap, subst, ◌∙◌, arith, lit<, get_or-set_other, length-set}
+use Rattle.std.proofs.Common.{◌≡◌, ◌≢◌, ℕ, ◌+◌, ◌%◌, ◌<◌, ◌≤◌, Bool, true, false, cond, eqb, ltb, leb, List, [], ◌∷◌, length, get_or, set, Option, Some, None, refl, sym, subst, ◌∙◌, arith, lit<, get_or-set_other, length-set}
 use Rattle.std.specs.Prelude.{All, ◌||◌, IfSome}
 use Rattle.std.specs.Int.{to_le_bytes, w16, w32}
 use Rattle.std.proofs.Math.ListN.{get_or-eq_default}

@@ -1,5 +1,5 @@
 -- What holds of the core of every machine.
-use Rattle.std.specs.Prelude.{◌≡◌, ℕ, ◌^◌, ◌<◌, List, length, All}
+use Rattle.std.specs.Prelude.{◌≡◌, ℕ, ◌^◌, ◌<◌, length, All}
 use Rattle.rv_machine.specs.State.{Core, register_of, memory_size}
 use Rattle.rv_machine.specs.Instruction.{Goes, core_step}
 
