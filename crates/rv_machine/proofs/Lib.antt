@@ -6,3 +6,5 @@ pub mod Tables
 pub mod Programs
 pub mod Layouts
 pub mod Tells
+pub mod Bounds
+pub mod Cores

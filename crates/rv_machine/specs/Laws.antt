@@ -1,11 +1,12 @@
 -- The laws of the machine.
-use Rattle.std.specs.Prelude.{◌≡◌, ◌==◌, ℕ, ◌+◌, ◌%◌, ◌≤◌, ◌<◌, ◌^◌, List, [], ◌∷◌, ◌++◌, map, Option, Some, None, IsSome, if◌then◌else◌}
-use Rattle.rv_code.specs.Code.{Fits}
+use Rattle.std.specs.Prelude.{◌≡◌, ◌==◌, ℕ, ◌+◌, ◌%◌, ◌≤◌, ◌<◌, ◌^◌, List, [], ◌∷◌, ◌++◌, map, Option, Some, None, IsSome, if◌then◌else◌, length}
+use Rattle.std.specs.Int.{to_le_bytes, w32}
+use Rattle.rv_code.specs.Code.{Fits, word_of}
 use Rattle.rv_code.specs.declared.instr.Instr.{Instr}
 use Rattle.rv_machine.specs.declared.stop.Halt.{Halt}
 use Rattle.rv_machine.specs.State.{Core, State, register_of}
-use Rattle.rv_machine.specs.Memory.{word_at}
-use Rattle.rv_machine.specs.Instruction.{Act, Goes, Traps, Asks, core_step, core_events, instruction_at}
+use Rattle.rv_machine.specs.Memory.{word_at, written_at}
+use Rattle.rv_machine.specs.Instruction.{Act, Goes, Traps, Asks, core_step, core_events, instruction_at, effect, event_of}
 use Rattle.rv_machine.specs.Environment.{Tell, Output, Happens, World, enter_events, leave_events}
 use Rattle.rv_machine.specs.Machine.{step, steps}
 
@@ -45,3 +46,11 @@ ToldGrows = (k d : ℕ) (w : World) → (more : List Tell) × ((steps (k + d) w)
 -- the fields of an instruction that is fetched fit
 abbrev pub FieldsFit : Type 0
 FieldsFit = (c : Core) (i : Instr) → word_at c.memory c.pc < 2 ^ 32 → instruction_at c ≡ Some i → Fits i
+
+-- the instruction whose word stands at the program counter, in the text's region, is done, and tells what it tells
+abbrev pub InstructionDone : Type 0
+InstructionDone = (c : Core) (i : Instr) → 4096 ≤ c.pc → c.pc < 2097152 → Fits i → word_at c.memory c.pc ≡ word_of i → (core_step c ≡ effect i c) × (core_events c ≡ event_of i c)
+
+-- a word that was written is read back
+abbrev pub WordReadBack : Type 0
+WordReadBack = (memory : List ℕ) (at word : ℕ) → at + 4 ≤ length memory → word < 2 ^ 32 → word_at (written_at memory at (to_le_bytes w32 word)) at ≡ word

@@ -11,3 +11,4 @@ pub mod Live
 pub mod Safety
 pub mod Seen
 pub mod Laws
+pub mod Formed

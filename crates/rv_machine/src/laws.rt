@@ -1,5 +1,6 @@
 //! The laws of the machine, for what stands on it.
-ghost use Rattle.rv_machine.specs.Laws.{EndingStays, StepTells, ToldGrows, FieldsFit};
+ghost use Rattle.rv_machine.specs.Laws.{EndingStays, StepTells, ToldGrows, FieldsFit, InstructionDone, WordReadBack};
+ghost use Rattle.rv_machine.specs.Formed.{CoreStays};
 
 /// A machine that has ended stays as it is.
 pub fn ending_stays()
@@ -19,4 +20,19 @@ pub fn told_grows()
 /// The fields of an instruction that is fetched fit.
 pub fn fields_fit()
     ensures { FieldsFit }
+{}
+
+/// The instruction whose word stands at the program counter is done.
+pub fn instruction_done()
+    ensures { InstructionDone }
+{}
+
+/// A word that was written is read back.
+pub fn word_read_back()
+    ensures { WordReadBack }
+{}
+
+/// An instruction keeps 32 registers with words in them, register 0 at 0, and the memory's size and bytes.
+pub fn core_stays()
+    ensures { CoreStays }
 {}
