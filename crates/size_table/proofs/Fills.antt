@@ -1,11 +1,11 @@
 -- What the bytes are where a part of them is filled.
-use Rattle.std.proofs.Common.{◌≡◌, ℕ, ◌+◌, ◌-◌, ◌*◌, ◌/◌, ◌%◌, ◌^◌, ◌<◌, ◌≤◌, cond, List, length, get_or, sym, ap, ◌∙◌, inl, inr, arith}
+use Rattle.std.proofs.Common.{◌≡◌, ℕ, ◌+◌, ◌-◌, ◌*◌, ◌/◌, ◌%◌, ◌^◌, ◌<◌, ◌≤◌, cond, List, length, get_or, refl, sym, ap, ◌∙◌, inl, inr, arith}
 use Rattle.std.proofs.lemmas.Bool.{cases_lt}
 use Rattle.std.proofs.lemmas.Bool.Decides.{nat_tests}
 use Rattle.std.proofs.lemmas.List.{places}
 use Rattle.std.proofs.lemmas.Nat.{pow_pos, pow-add}
 use Rattle.size_table.specs.Blocks.{IsBlock, block_at, holds}
-use Rattle.size_table.specs.Table.{Marks, filled}
+use Rattle.size_table.specs.Table.{Marks, IsFilled, BlockIsMarked, filled}
 
 length-filled : (bytes : List ℕ) (at count byte : ℕ) → at + count ≤ length bytes → length (filled bytes at count byte) ≡ length bytes
 unfolding filled
@@ -22,6 +22,14 @@ filled_above bytes at count byte i le past = search (arith, places)
 filled_within : (bytes : List ℕ) (at count byte i : ℕ) → at + count ≤ length bytes → at ≤ i → i < at + count → get_or (filled bytes at count byte) i 0 ≡ byte
 unfolding filled
 filled_within bytes at count byte i le from to = search (arith, places)
+
+pub is_filled : (bytes : List ℕ) (at count byte : ℕ) → at + count ≤ length bytes → IsFilled at count byte bytes (filled bytes at count byte)
+is_filled bytes at count byte le = record {
+  size = length-filled bytes at count byte le;
+  below = λ index lt. filled_below bytes at count byte index le lt;
+  within = λ index from to. filled_within bytes at count byte index le from to;
+  above = λ index past. filled_above bytes at count byte index le past;
+}
 
 -- the slots of a block
 pub record HasSlots (base e first count : ℕ) : Type 0 where
@@ -63,3 +71,6 @@ pub marks : (bytes new : List ℕ) (base e byte : ℕ) → IsBlock 4 (block_at b
 marks bytes new base e byte block size is =
     let h = slots_of base e block.least block.aligned in
     rw is (marks_filled bytes base e (base / 16) (2 ^ e / 16) byte h (let within = block.within in omega (arith, h.start, h.size)))
+
+pub block_is_marked_so : BlockIsMarked
+block_is_marked_so base e byte table size block = marks table (filled table (base / 16) (2 ^ e / 16) byte) base e byte block size refl

@@ -1,6 +1,6 @@
 -- The size table of a list of blocks.
-use Rattle.std.specs.Prelude.{◌≡◌, ℕ, ◌+◌, ◌<◌, true, List, [], ◌∷◌, ◌++◌, length, take, drop, replicate, slice_index, if◌then◌else◌}
-use Rattle.size_table.specs.Blocks.{Block, holds, MissesAll, AreDisjoint}
+use Rattle.std.specs.Prelude.{◌≡◌, ℕ, ◌+◌, ◌/◌, ◌^◌, ◌<◌, ◌≤◌, true, List, [], ◌∷◌, ◌++◌, length, take, drop, replicate, slice_index, if◌then◌else◌}
+use Rattle.size_table.specs.Blocks.{Block, IsBlock, block_at, holds, MissesAll, AreDisjoint}
 
 -- how many bytes the table has
 abbrev pub table_size : ℕ
@@ -40,3 +40,26 @@ HoldersByteLaw = (g slot : ℕ) (block : Block) (before after : List Block) → 
 -- the list with so many bytes of this value from a place on
 unfoldable pub filled : List ℕ → ℕ → ℕ → ℕ → List ℕ
 filled bytes at count byte = take at bytes ++ (replicate count byte ++ drop (at + count) bytes)
+
+-- the bytes from a place on, so many of them, are this one, and all others stay
+pub record IsFilled (at count byte : ℕ) (old new : List ℕ) : Type 0 where
+  pub size : length new ≡ length old
+  pub below : (index : ℕ) → index < at → slice_index new index ≡ slice_index old index
+  pub within : (index : ℕ) → at ≤ index → index < at + count → slice_index new index ≡ byte
+  pub above : (index : ℕ) → at + count ≤ index → slice_index new index ≡ slice_index old index
+
+-- where a part of a list is filled, the bytes of that part are the given one, and all others stay
+abbrev pub FilledLaw : Type 0
+FilledLaw = (bytes : List ℕ) (at count byte : ℕ) → at + count ≤ length bytes → IsFilled at count byte bytes (filled bytes at count byte)
+
+-- filling the bytes of a block's slots marks the block
+abbrev pub BlockIsMarked : Type 0
+BlockIsMarked = (base e byte : ℕ) (table : List ℕ) → length table ≡ table_size → IsBlock 4 (block_at base e) → Marks 4 (block_at base e) byte table (filled table (base / 16) (2 ^ e / 16) byte)
+
+-- marking a block with its exponent adds it to the table
+abbrev pub MarkingAdds : Type 0
+MarkingAdds = (g : ℕ) (block : Block) (old new : List ℕ) → Marks g block block.exponent old new → Adds g block old new
+
+-- marking a block with 0 removes it from the table
+abbrev pub MarkingRemoves : Type 0
+MarkingRemoves = (g : ℕ) (block : Block) (old new : List ℕ) → Marks g block 0 old new → Removes g block old new

@@ -6,9 +6,11 @@
 //! address in it.
 #![tactic(auto)]
 
+pub mod laws;
+
 ghost use Rattle.std.specs.Prelude.{◌≡◌, ℕ, ◌/◌, ◌^◌, ◌<◌, ◌≤◌, List, length, slice_index};
 ghost use Rattle.size_table.specs.Blocks.{IsBlock, block_at};
-ghost use Rattle.size_table.specs.Table.{Marks, Adds, Removes, TellsBlocks, HoldersByteLaw, filled, table_size};
+ghost use Rattle.size_table.specs.Table.{Marks, Adds, Removes, TellsBlocks, filled, table_size};
 
 /// How many bytes a slot has.
 const SLOT: usize = 16;
@@ -17,6 +19,7 @@ const SLOT: usize = 16;
 pub fn set(table: &mut [u8], base: u32, e: u8)
     requires size { length table.old ≡ table_size }
     requires block { IsBlock 4 (block_at base e) }
+    ensures exact { table.new ≡ filled table.old (base / 16) (2 ^ e / 16) e }
     ensures bytes { Marks 4 (block_at base e) e table.old table.new }
     ensures added { Adds 4 (block_at base e) table.old table.new }
 {
@@ -27,6 +30,7 @@ pub fn set(table: &mut [u8], base: u32, e: u8)
 pub fn clear(table: &mut [u8], base: u32, e: u8)
     requires size { length table.old ≡ table_size }
     requires block { IsBlock 4 (block_at base e) }
+    ensures exact { table.new ≡ filled table.old (base / 16) (2 ^ e / 16) 0 }
     ensures bytes { Marks 4 (block_at base e) 0 table.old table.new }
     ensures removed { Removes 4 (block_at base e) table.old table.new }
 {
@@ -42,11 +46,6 @@ pub fn look(table: &[u8], slot: u32) -> u8
 {
     table[slot as usize]
 }
-
-/// If blocks don't meet, the byte of a slot is the exponent of whichever of them holds it.
-pub fn holders_byte()
-    ensures { HoldersByteLaw }
-{}
 
 // Writes a byte for each slot of the block.
 #[tactic(auto, unfolding(crate::specs::Table::filled))]
