@@ -1,7 +1,10 @@
 //! What a run tells beside its output.
+ghost use Rattle.std.specs.Prelude.{◌≡◌, true, false};
+ghost use Rattle.bb_watch.specs.declared.event.Event.{Event as AnEvent};
+ghost use Rattle.bb_watch.specs.Kinds.{is_of};
 
 /// Something that happened in a run. `pc` is the address of the instruction that did it.
-#[derive(Clone, Copy)]
+#[derive(Clone, Copy, Debug, PartialEq, Eq)]
 pub enum Event {
     /// The pointer `from` was moved and checked, and became `to`.
     Move {
@@ -44,7 +47,7 @@ pub enum Event {
 }
 
 /// Kinds of events, one field for each variant of `Event`.
-#[derive(Clone, Copy)]
+#[derive(Clone, Copy, Debug, PartialEq, Eq)]
 pub struct Kinds {
     pub moves: bool,
     pub accesses: bool,
@@ -53,4 +56,51 @@ pub struct Kinds {
     pub made: bool,
     pub ended: bool,
     pub lines: bool,
+}
+
+impl Kinds {
+    /// No kind.
+    pub fn none() -> Kinds
+        ensures { (event : AnEvent) → is_of result event ≡ false }
+    {
+        Kinds {
+            moves: false,
+            accesses: false,
+            calls: false,
+            returns: false,
+            made: false,
+            ended: false,
+            lines: false,
+        }
+    }
+
+    /// Every kind.
+    pub fn all() -> Kinds
+        ensures { (event : AnEvent) → is_of result event ≡ true }
+    {
+        Kinds {
+            moves: true,
+            accesses: true,
+            calls: true,
+            returns: true,
+            made: true,
+            ended: true,
+            lines: true,
+        }
+    }
+
+    /// Whether an event is of one of the kinds.
+    pub fn has(&self, event: &Event) -> bool
+        ensures { result ≡ is_of self.now event.now }
+    {
+        match *event {
+            Event::Move { .. } => self.moves,
+            Event::Access { .. } => self.accesses,
+            Event::Call { .. } => self.calls,
+            Event::Return { .. } => self.returns,
+            Event::Made { .. } => self.made,
+            Event::Ended { .. } => self.ended,
+            Event::Line { .. } => self.lines,
+        }
+    }
 }

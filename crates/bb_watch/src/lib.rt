@@ -2,3 +2,5 @@
 #![tactic(auto)]
 
 pub mod event;
+#[cfg(test)]
+mod tests;
