@@ -8,3 +8,4 @@ pub mod Layouts
 pub mod Tells
 pub mod Bounds
 pub mod Cores
+pub mod Stacks

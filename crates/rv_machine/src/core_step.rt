@@ -6,7 +6,9 @@ ghost use Rattle.rv_code.specs.Code.{Fits};
 ghost use Rattle.rv_image.specs.Rules.{IsImage};
 
 use crate::access::{signed_byte, signed_half, trap_of};
-use crate::memory::{half_at, word_at, write_bytes, write_table, write_words, zeros};
+use crate::memory::{
+    clear_in_table, half_at, set_in_table, word_at, write_bytes, write_table, write_words, zeros,
+};
 use crate::stop::Effect;
 use bb_words::kinds::TrapKind;
 use bb_words::word::Word;
@@ -36,7 +38,7 @@ impl Model for Core {
 }
 
 impl Core {
-    ghost use Rattle.size_table.specs.Blocks.{block_at};
+    ghost use Rattle.size_table.specs.Blocks.{IsBlock, block_at};
     ghost use Rattle.size_table.specs.Table.{filled};
     ghost use Rattle.rv_machine.specs.Blocks.{made, ended};
     ghost use Rattle.rv_machine.specs.Memory.{half_at, word_at};
@@ -418,31 +420,22 @@ impl Core {
         self.memory[at..at + count].fill(byte);
     }
 
-    // Writes a byte for each slot of a block into the size table.
-    fn table(&mut self, base: u32, exponent: u8, byte: u8)
-        requires { (4 ≤ exponent) × (exponent ≤ 24) × (base + 2 ^ exponent ≤ 33554432) }
-        ensures { self.new ≡ with_memory (filled self.old.memory (2097152 + base / 16) (2 ^ exponent / 16) byte) self.old }
-    {
-        let size = 1usize << exponent;
-        self.fill(0x20_0000 + base as usize / 16, size / 16, byte);
-    }
-
     /// Makes a block: its bytes are zero, and the size table has its exponent.
     #[tactic(auto, unfolding(crate::specs::Blocks::made))]
     pub(crate) fn make(&mut self, base: u32, exponent: u8)
-        requires { (4 ≤ exponent) × (exponent ≤ 24) × (base + 2 ^ exponent ≤ 33554432) }
+        requires { IsBlock 4 (block_at base exponent) }
         ensures { self.new ≡ with_memory (made (block_at base exponent) self.old.memory) self.old }
     {
         self.fill(base as usize, 1 << exponent, 0);
-        self.table(base, exponent, exponent);
+        set_in_table(&mut self.memory, base, exponent);
     }
 
     /// Ends a block: the size table has 0 for it, and its bytes stay.
     #[tactic(auto, unfolding(crate::specs::Blocks::ended))]
     pub(crate) fn end(&mut self, base: u32, exponent: u8)
-        requires { (4 ≤ exponent) × (exponent ≤ 24) × (base + 2 ^ exponent ≤ 33554432) }
+        requires { IsBlock 4 (block_at base exponent) }
         ensures { self.new ≡ with_memory (ended (block_at base exponent) self.old.memory) self.old }
     {
-        self.table(base, exponent, 0);
+        clear_in_table(&mut self.memory, base, exponent);
     }
 }

@@ -1,6 +1,6 @@
 //! The frames of an image, and the calls that were entered.
 ghost use Rattle.std.specs.Prelude.{◌≡◌, ◌+◌, ◌<◌, ◌≤◌, ◌++◌, ◌∷◌, [], length, vec_len, vec_capacity, slice_get, IfOk, IfNone, Some};
-ghost use Rattle.rv_image.specs.Rules.{IsImage, total_size, AreFrames};
+ghost use Rattle.rv_image.specs.Rules.{IsImage, total_size, Decline, AreFrames};
 ghost use Rattle.rv_machine.specs.Blocks.{AreExponents};
 ghost use Rattle.rv_machine.specs.Frames.{stack_under, AreLayouts};
 
@@ -45,16 +45,16 @@ pub struct Frames {
 }
 
 impl Model for Frames {
-    ghost use Rattle.std.specs.Prelude.{◌≤◌, vec_capacity, All};
+    ghost use Rattle.std.specs.Prelude.{◌≤◌, vec_capacity, All, reverse};
     ghost use Rattle.rv_machine.specs.declared.frames.Entered.{Entered as ACall};
-    ghost use Rattle.rv_machine.specs.Frames.{AreLayouts};
+    ghost use Rattle.rv_machine.specs.Frames.{AreLayouts, AreStacked};
     ghost use Rattle.rv_machine.specs.State.{Frames as FramesState};
 
     ghost Value = { FramesState };
 
     ghost view = { λ f. record { layouts = f.layouts; entered = f.entered.items; stack = f.stack } };
 
-    ghost invariant = { λ f. AreLayouts f.layouts × (4096 ≤ vec_capacity f.entered) × (f.stack ≤ 16777216) × All (λ (call : ACall). call.back ≤ 16777216) f.entered.items };
+    ghost invariant = { λ f. AreLayouts f.layouts × (4096 ≤ vec_capacity f.entered) × (f.stack ≤ 16777216) × All (λ (call : ACall). call.back ≤ 16777216) f.entered.items × AreStacked f.layouts (reverse f.entered.items) f.stack };
 }
 
 // Room is there for a call more.
@@ -92,6 +92,7 @@ fn layout(layouts: &List<List<u8>>, at: usize) -> &[u8]
     requires fit { AreLayouts layouts.now }
     ensures value { slice_get layouts.now at ≡ Some result.now }
     ensures exponents { AreExponents result.now }
+    ensures declines { Decline 20 result.now }
     ensures fits { total_size result.now ≤ 4194304 }
 {
     layout_at(layouts, at)

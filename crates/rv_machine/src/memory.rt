@@ -1,5 +1,7 @@
 //! Bytes and words in memory.
 ghost use Rattle.std.specs.Prelude.{◌≡◌, ◌+◌, ◌-◌, ◌*◌, ◌^◌, ◌≤◌, length, replicate, vec_len, IfOk, All};
+ghost use Rattle.size_table.specs.Blocks.{IsBlock, block_at};
+ghost use Rattle.rv_machine.specs.Blocks.{tabled};
 ghost use Rattle.rv_machine.specs.State.{memory_size};
 ghost use Rattle.rv_machine.specs.Memory.{half_at, word_at, written_at, bytes_of_words, table_bytes, IsExponent};
 
@@ -83,4 +85,22 @@ pub(crate) fn write_table(memory: &mut [u8], at: usize, exponents: &[u8])
         write_copies(memory, slot, count, *exponent);
         slot += count;
     }
+}
+
+/// A block begins: each of its slots has its exponent in the size table.
+pub(crate) fn set_in_table(memory: &mut [u8], base: u32, exponent: u8)
+    requires size { length memory.old ≡ 33554432 }
+    requires block { IsBlock 4 (block_at base exponent) }
+    ensures { memory.new ≡ tabled exponent (block_at base exponent) memory.old }
+{
+    size_table::set(&mut memory[0x20_0000..0x40_0000], base, exponent);
+}
+
+/// A block ends: each of its slots has 0 in the size table.
+pub(crate) fn clear_in_table(memory: &mut [u8], base: u32, exponent: u8)
+    requires size { length memory.old ≡ 33554432 }
+    requires block { IsBlock 4 (block_at base exponent) }
+    ensures { memory.new ≡ tabled 0 (block_at base exponent) memory.old }
+{
+    size_table::clear(&mut memory[0x20_0000..0x40_0000], base, exponent);
 }

@@ -1,0 +1,8 @@
+use Rattle.std.proofs.Common.{◌/◌, ◌^◌, arith}
+use Rattle.rv_machine.proofs.Stacks.{filled_part}
+use Rattle.rv_machine.proofs.memory.clear_in_table.Goals as goal
+
+pub returns : goal.returns
+returns c =
+    let within = c.requires.block.within in
+    rw c.clear.ensures.exact (filled_part c.args.memory.now 2097152 2097152 (c.args.base / 16) (2 ^ c.args.exponent / 16) 0 (omega (arith, within)))
