@@ -15,7 +15,6 @@ use Rattle.rv_machine.specs.Environment.{World}
 use Rattle.rv_machine.specs.Machine.{steps, machine_after, IsBeforeCall}
 use Rattle.rv_machine.specs.Start.{start}
 use Rattle.rv_machine.specs.Runs.{Ran, Shown, Stops}
-use Rattle.rv_machine.proofs.Steps.{steps_stay}
 use Rattle.baggy_tool.specs.declared.form.Summand.{Summand}
 use Rattle.baggy_tool.specs.declared.ending.Ending.{Ending}
 use Rattle.baggy_tool.specs.declared.ending.Ending.TheVariants as ending
@@ -27,6 +26,7 @@ use Rattle.baggy_tool.specs.Files.{IsFile}
 use Rattle.baggy_tool.specs.Form.{Sum, HasSummands, value_of}
 use Rattle.baggy_tool.specs.Notes.{IsAppended}
 use Rattle.baggy_tool.specs.Words.{Request}
+use Rattle.baggy_tool.proofs.Machine.{MachineLaws}
 use Rattle.baggy_tool.proofs.FormLemmas.{found_small, found_count, found_sum}
 use Rattle.baggy_tool.proofs.Simulation.{AreSmall, words_length, image_exits, image_only_exits}
 
@@ -58,24 +58,27 @@ are_small : (ss : List Summand) → AllByRecursion (λ (s : Summand). s.value �
 are_small [] h = tt
 are_small (s ∷ ss) h = (h.0, are_small ss h.1)
 
-exits_with_sum : (text : List ℕ) (ss : List Summand) (image : Image) (found : HasSummands text ss) → IsCompiled ss image → ExitsWithSum found.0 image
-exits_with_sum text ss image found h =
+exits_with_sum : MachineLaws → (text : List ℕ) (ss : List Summand) (image : Image) (found : HasSummands text ss) → IsCompiled ss image → ExitsWithSum found.0 image
+exits_with_sum laws text ss image found h =
     let small = are_small ss (recursion_from_All (λ (s : Summand). s.value ≤ 2147483647) ss (found_small text ss found)) in
     let few = found_count text ss found in
     let sum = found_sum text ss found.0 found found.1 in
     let count = ap length found.2 in
     record {
-      exits = λ input n le. image_exits image ss input n h small few (omega arith) ∙ ap (λ (v : ℕ). Some (halt.Exited (v % 256))) sum;
-      calls = λ input n number before. image_only_exits image ss input n number h small few before;
+      exits = λ input n le. image_exits laws image ss input n h small few (omega arith) ∙ ap (λ (v : ℕ). Some (halt.Exited (v % 256))) sum;
+      calls = λ input n number before. image_only_exits laws image ss input n number h small few before;
     }
 
-pub built_image : (text : List ℕ) (image : Image) → Builds text (Ok image) → IsImageOf text image
-built_image text image b = record {
+pub valid_image : (text : List ℕ) (image : Image) → Builds text (Ok image) → IsImage image
+valid_image text image b = compiled_is_image image b.1 b.3 (found_count text b.1 b.2)
+
+pub built_image : MachineLaws → (text : List ℕ) (image : Image) → Builds text (Ok image) → IsImageOf text image
+built_image laws text image b = record {
   short = b.0;
   sum = b.2.0;
   form = b.2.1;
-  valid = compiled_is_image image b.1 b.3 (found_count text b.1 b.2);
-  right = exits_with_sum text b.1 image b.2 b.3;
+  valid = valid_image text image b;
+  right = exits_with_sum laws text b.1 image b.2 b.3;
 }
 
 -- ---- Its run
@@ -93,29 +96,29 @@ some_is : {A : Type 0} {o : Option A} {x : A} → o ≡ Some x → IsSome o
 some_is e = ap is_some e
 
 -- an ending is the exit with the sum
-one_ending : (sum : Sum) (image : Image) (n : ℕ) (o o' : Shown) (s : State) (h : Halt) → ExitsWithSum sum image → Ran (steps n) (start image) o s o' → s.ending ≡ Some h → h ≡ halt.Exited (value_of sum % 256)
-one_ending sum image n o o' s h right p e =
+one_ending : MachineLaws → (sum : Sum) (image : Image) (n : ℕ) (o o' : Shown) (s : State) (h : Halt) → ExitsWithSum sum image → Ran (steps n) (start image) o s o' → s.ending ≡ Some h → h ≡ halt.Exited (value_of sum % 256)
+one_ending laws sum image n o o' s h right p e =
     let at = stands image n o o' s p in
     let m = n + (8 * numbers_of sum + 8) in
     let w : World = record { machine = start image; left = at.0; told = [] } in
     let ended : (steps n w).machine.ending ≡ Some h = ap (λ (x : State). x.ending) at.1 ∙ e in
-    let stay = ap (λ (x : World). x.machine.ending) (steps_stay m n w (some_is ended) (omega arith)) in
+    let stay = ap (λ (x : World). x.machine.ending) (laws.stay m n w (some_is ended) (omega arith)) in
     let exits = right.exits at.0 m (omega arith) in
     cc
 
-stopped : (text : List ℕ) (n : ℕ) (image : Image) (o o' : Shown) (s : State) (why : Stop) → IsImageOf text image → Stops why n (start image) o s o' → AnswersText text n o o' (ending_of why) (Some image)
-stopped text n image o o' s (stop.Exited status) of p = (of, record { state = s; ran = p.0; ended = p.1 })
-stopped text n image o o' s (stop.Reported kind line) of p = let e = one_ending of.sum image n o o' s (halt.Reported kind line) of.right p.0 p.1 in absurd (cc)
-stopped text n image o o' s (stop.Trapped kind) of p = let e = one_ending of.sum image n o o' s (halt.Trapped kind) of.right p.0 p.1 in absurd (cc)
-stopped text n image o o' s stop.OutOfSteps of p = (of, record { state = s; ran = p.0; ended = p.1 })
-stopped text n image o o' s stop.ReadFault of p = let e : 2 ≡ 1 = one_call of.sum image p.0 2 o o' s of.right p.2 p.3 in absurd (false≢true (sym (ap (λ (x : ℕ). nat_eq x 2) e)))
-stopped text n image o o' s stop.WriteFault of p = let e : 3 ≡ 1 = one_call of.sum image p.0 3 o o' s of.right p.2 p.3 in absurd (false≢true (sym (ap (λ (x : ℕ). nat_eq x 3) e)))
+stopped : MachineLaws → (text : List ℕ) (n : ℕ) (image : Image) (o o' : Shown) (s : State) (why : Stop) → IsImageOf text image → Stops why n (start image) o s o' → AnswersText text n o o' (ending_of why) (Some image)
+stopped laws text n image o o' s (stop.Exited status) of p = (of, record { state = s; ran = p.0; ended = p.1 })
+stopped laws text n image o o' s (stop.Reported kind line) of p = let e = one_ending laws of.sum image n o o' s (halt.Reported kind line) of.right p.0 p.1 in absurd (cc)
+stopped laws text n image o o' s (stop.Trapped kind) of p = let e = one_ending laws of.sum image n o o' s (halt.Trapped kind) of.right p.0 p.1 in absurd (cc)
+stopped laws text n image o o' s stop.OutOfSteps of p = (of, record { state = s; ran = p.0; ended = p.1 })
+stopped laws text n image o o' s stop.ReadFault of p = let e : 2 ≡ 1 = one_call of.sum image p.0 2 o o' s of.right p.2 p.3 in absurd (false≢true (sym (ap (λ (x : ℕ). nat_eq x 2) e)))
+stopped laws text n image o o' s stop.WriteFault of p = let e : 3 ≡ 1 = one_call of.sum image p.0 3 o o' s of.right p.2 p.3 in absurd (false≢true (sym (ap (λ (x : ℕ). nat_eq x 3) e)))
 
 -- the answer of a text whose image was run, or lacked memory for that
-pub text_answers : (text : List ℕ) (n : ℕ) (image : Image) (o o' : Shown) (e : Ending) (same : Option Image) → IsImageOf text image → RunsImage image n o o' e same → AnswersText text n o o' e same
-text_answers text n image o o' e None of p = subst (λ (x : Ending). AnswersText text n o o' x None) (sym p.0) p.1
-text_answers text n image o o' e (Some same) of p =
-    subst (λ (x : Ending). AnswersText text n o o' x (Some same)) (sym p.4) (subst (λ (x : Image). AnswersText text n o o' (ending_of p.1) (Some x)) (sym p.0) (stopped text n image o o' p.2 p.1 of p.3))
+pub text_answers : MachineLaws → (text : List ℕ) (n : ℕ) (image : Image) (o o' : Shown) (e : Ending) (same : Option Image) → IsImageOf text image → RunsImage image n o o' e same → AnswersText text n o o' e same
+text_answers laws text n image o o' e None of p = subst (λ (x : Ending). AnswersText text n o o' x None) (sym p.0) p.1
+text_answers laws text n image o o' e (Some same) of p =
+    subst (λ (x : Ending). AnswersText text n o o' x (Some same)) (sym p.4) (subst (λ (x : Image). AnswersText text n o o' (ending_of p.1) (Some x)) (sym p.0) (stopped laws text n image o o' p.2 p.1 of p.3))
 
 -- ---- The file
 

@@ -7,5 +7,6 @@ pub mod FormReading
 pub mod Numbers
 pub mod Files
 pub mod Noting
+pub mod Machine
 pub mod Simulation
 pub mod Answering

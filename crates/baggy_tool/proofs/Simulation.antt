@@ -4,21 +4,24 @@ use Rattle.std.specs.Prelude.{map, replicate, IsSome, is_some}
 use Rattle.bb_watch.specs.declared.event.Event.{Event}
 use Rattle.std.proofs.lemmas.Bool.Decides.{nat_tests}
 use Rattle.std.proofs.lemmas.List.{length-replicate}
+use Rattle.std.proofs.lemmas.List.Elements.{All-from_recursion}
+use Rattle.std.specs.List.{AllByRecursion}
 use Rattle.bb_words.specs.Numbers.{sum, difference}
+use Rattle.rv_code.specs.Bits.{extended}
 use Rattle.rv_image.specs.declared.image.Image.{Image}
 use Rattle.rv_machine.specs.declared.stop.Halt.{Halt}
 use Rattle.rv_machine.specs.declared.stop.Halt.TheVariants.{Exited}
 use Rattle.rv_machine.specs.State.{Core, State, memory_size, register_of}
-use Rattle.rv_machine.specs.Memory.{word_at, written_at, bytes_of_words}
-use Rattle.rv_machine.specs.Instruction.{Goes, Asks, core_step, core_events}
+use Rattle.rv_machine.specs.Memory.{word_at, written_at, bytes_of_words, Stand}
+use Rattle.rv_machine.specs.Formed.{IsWord}
+use Rattle.rv_machine.specs.Instruction.{Goes, Asks, core_step}
 use Rattle.rv_machine.specs.Environment.{World, Tell, Happens, calls}
 use Rattle.rv_machine.specs.Machine.{step, steps, machine_after, IsBeforeCall}
 use Rattle.rv_machine.specs.Start.{start, start_memory, start_registers, start_frames}
-use Rattle.rv_machine.proofs.Steps.{steps_none, steps_add, steps_stay, step_acts}
-use Rattle.rv_machine.proofs.Programs.{Has, AreWords, words_stand, extended, lui_goes, lui_quiet, addi_goes, addi_quiet, add_goes, add_quiet, sub_goes, sub_quiet, ecall_asks}
 use Rattle.baggy_tool.specs.declared.form.Summand.{Summand}
 use Rattle.baggy_tool.specs.Form.{with_summand, sum_from}
 use Rattle.baggy_tool.specs.Code.{summand_words, sum_words, exit_words, IsCompiled}
+use Rattle.baggy_tool.proofs.Machine.{MachineLaws, Quiet, steps_none, one_is, step_acts, lui_done, addi_done, add_done, sub_done, ecall_asks}
 
 abbrev core_at : ℕ → List ℕ → List ℕ → Core
 core_at pc r m = record { pc = pc; registers = r; memory = m }
@@ -36,28 +39,24 @@ record GoesOn (n : ℕ) (w v : World) : Type 0 where
   comes : steps n w ≡ v
   only : OnlyExits n w
 
-only_then : (a b : ℕ) (u v : World) → GoesOn a u v → OnlyExits b v → OnlyExits (a + b) u
-only_then a b u v p q = λ k number h before. by k number h before (leb a k) refl
+only_then : MachineLaws → (a b : ℕ) (u v : World) → GoesOn a u v → OnlyExits b v → OnlyExits (a + b) u
+only_then laws a b u v p q = λ k number h before. by k number h before (leb a k) refl
   where
     by : (k number : ℕ) → k < a + b → IsBeforeCall number (steps k u).machine → (t : Bool) → leb a k ≡ t → number ≡ 1
     by k number h before true e =
         let le : a ≤ k = grind (arith, nat_tests) in
         let k' : k ≡ a + (k - a) = omega arith in
-        let same : steps k u ≡ steps (k - a) v = ap (λ (n : ℕ). steps n u) k' ∙ steps_add (k - a) a u ∙ ap (steps (k - a)) p.comes in
+        let same : steps k u ≡ steps (k - a) v = ap (λ (n : ℕ). steps n u) k' ∙ sym (laws.add a (k - a) u) ∙ ap (steps (k - a)) p.comes in
         q (k - a) number (omega arith) (subst (λ (x : World). IsBeforeCall number x.machine) same before)
     by k number h before false e =
         let lt : k < a = grind (arith, nat_tests) in
         p.only k number lt before
 
-then_on : (a b : ℕ) (u v w : World) → GoesOn a u v → GoesOn b v w → GoesOn (a + b) u w
-then_on a b u v w p q = record {
-  comes = steps_add b a u ∙ ap (steps b) p.comes ∙ q.comes;
-  only = only_then a b u v p q.only;
+then_on : MachineLaws → (a b : ℕ) (u v w : World) → GoesOn a u v → GoesOn b v w → GoesOn (a + b) u w
+then_on laws a b u v w p q = record {
+  comes = sym (laws.add a b u) ∙ ap (steps b) p.comes ∙ q.comes;
+  only = only_then laws a b u v p q.only;
 }
-
-one_is : (w : World) → steps 1 w ≡ step w
-unfolding steps
-one_is w = refl
 
 -- before an instruction of the core no environment call comes
 no_call : (c d : Core) (number : ℕ) (s : State) → core_step c ≡ Goes d → s.core ≡ c → IsBeforeCall number s → number ≡ 1
@@ -66,18 +65,18 @@ no_call c d number s e same before =
     absurd (cc)
 
 -- one instruction of the core, which tells nothing
-goes : (c d : Core) (input : List ℕ) (told : List Tell) → core_step c ≡ Goes d → core_events c ≡ [] → GoesOn 1 (world c input told) (world d input told)
-goes c d input told e quiet = record {
-  comes = one_is (world c input told) ∙ step_acts (world c input told) (Goes d) refl e ∙ ap (λ (events : List Event). world d input (told ++ map Happens events)) quiet ∙ ap (world d input) (append-nil told);
+goes : (c d : Core) (input : List ℕ) (told : List Tell) → Quiet c d → GoesOn 1 (world c input told) (world d input told)
+goes c d input told quiet = record {
+  comes = one_is (world c input told) ∙ step_acts (world c input told) (Goes d) refl quiet.goes ∙ ap (λ (events : List Event). world d input (told ++ map Happens events)) quiet.tells ∙ ap (world d input) (append-nil told);
   only = λ k number h before.
       let first : k ≡ 0 = omega arith in
       let w = world c input told in
-      no_call c d number (steps k w).machine e (ap (λ (n : ℕ). (steps n w).machine.core) first ∙ ap (λ (x : World). x.machine.core) (steps_none w)) before;
+      no_call c d number (steps k w).machine quiet.goes (ap (λ (n : ℕ). (steps n w).machine.core) first ∙ ap (λ (x : World). x.machine.core) (steps_none w)) before;
 }
 
 -- the immediate of 12 bits
 abbrev low_part : ℕ → ℕ
-low_part v = extended (v % 4096)
+low_part v = extended 12 (v % 4096)
 
 parts_sum : (v : ℕ) → v ≤ 2147483647 → ((v + 2048) / 4096 * 4096 + low_part v) % 2 ^ 32 ≡ v
 parts_sum v h = by (ltb (v % 4096) 2048) refl
@@ -96,13 +95,9 @@ record Registers (r : List ℕ) (total : ℕ) : Type 0 where
 abbrev combined_registers : Bool → List ℕ → ℕ
 combined_registers minus r = cond minus (difference (get_or r 10 0) (get_or r 11 0)) (sum (get_or r 10 0) (get_or r 11 0))
 
-last_step : (minus : Bool) (m r : List ℕ) (pc : ℕ) → 4096 ≤ pc → pc < 2097152 → word_at m pc ≡ cond minus 1085605171 11863347 → core_step (core_at pc r m) ≡ Goes (core_at (pc + 4) (set r 10 (combined_registers minus r)) m)
-last_step true m r pc low high h = sub_goes (core_at pc r m) 10 10 11 (record { low = low; high = high }) (lit< tt) (lit< tt) (lit< tt) h
-last_step false m r pc low high h = add_goes (core_at pc r m) 10 10 11 (record { low = low; high = high }) (lit< tt) (lit< tt) (lit< tt) h
-
-last_quiet : (minus : Bool) (m r : List ℕ) (pc : ℕ) → word_at m pc ≡ cond minus 1085605171 11863347 → core_events (core_at pc r m) ≡ []
-last_quiet true m r pc h = sub_quiet (core_at pc r m) 10 10 11 (lit< tt) (lit< tt) (lit< tt) h
-last_quiet false m r pc h = add_quiet (core_at pc r m) 10 10 11 (lit< tt) (lit< tt) (lit< tt) (lit< tt) h
+last_step : MachineLaws → (minus : Bool) (m r : List ℕ) (pc : ℕ) → 4096 ≤ pc → pc < 2097152 → word_at m pc ≡ cond minus 1085605171 11863347 → Quiet (core_at pc r m) (core_at (pc + 4) (set r 10 (combined_registers minus r)) m)
+last_step laws true m r pc low high h = sub_done laws (core_at pc r m) 10 10 11 (record { low = low; high = high }) (lit< tt) (lit< tt) (lit< tt) h
+last_step laws false m r pc low high h = add_done laws (core_at pc r m) 10 10 11 (record { low = low; high = high }) (lit< tt) (lit< tt) (lit< tt) (lit< tt) h
 
 pair_of : {a b c d : ℕ} → a ≡ b → c ≡ d → ◌≡◌ {A = ℕ × ℕ} (a, c) (b, d)
 pair_of e f = cc
@@ -142,7 +137,7 @@ record Arrives (n pc total : ℕ) (ws m r : List ℕ) (from : ℕ) (input : List
   registers : List ℕ
   known : Registers registers total
   run : GoesOn n (world (core_at from r m) input told) (world (core_at pc registers m) input told)
-  words : Has m pc ws
+  words : Stand m pc ws
 
 lui_word : (n : ℕ) → n * 4096 + 1463 ≡ n * 4096 + 11 * 128 + 55
 lui_word n = omega arith
@@ -150,8 +145,8 @@ lui_word n = omega arith
 addi_word : (n : ℕ) → n * 1048576 + 361875 ≡ n * 1048576 + 11 * 32768 + 11 * 128 + 19
 addi_word n = omega arith
 
-summand_runs : (s : Summand) (ws m r : List ℕ) (pc total : ℕ) (input : List ℕ) (told : List Tell) → Registers r total → s.value ≤ 2147483647 → 4096 ≤ pc → pc + 12 ≤ 2097152 → Has m pc (summand_words s ++ ws) → Arrives 3 (pc + 12) (with_summand total s) ws m r pc input told
-summand_runs s ws m r pc total input told k small low high h =
+summand_runs : MachineLaws → (s : Summand) (ws m r : List ℕ) (pc total : ℕ) (input : List ℕ) (told : List Tell) → Registers r total → s.value ≤ 2147483647 → 4096 ≤ pc → pc + 12 ≤ 2097152 → Stand m pc (summand_words s ++ ws) → Arrives 3 (pc + 12) (with_summand total s) ws m r pc input told
+summand_runs laws s ws m r pc total input told k small low high h =
     let v = s.value in
     let hi = (v + 2048) / 4096 * 4096 in
     let lo = low_part v in
@@ -160,17 +155,17 @@ summand_runs s ws m r pc total input told k small low high h =
     let r3 = set r2 10 (combined_registers s.minus r2) in
     let w1 = h.0 ∙ lui_word ((v + 2048) / 4096) in
     let w2 = h.1.0 ∙ addi_word (v % 4096) in
-    let e1 = goes (core_at pc r m) (core_at (pc + 4) r1 m) input told (lui_goes (core_at pc r m) 11 ((v + 2048) / 4096) (record { low = low; high = omega arith }) (lit< tt) (omega arith) w1) (lui_quiet (core_at pc r m) 11 ((v + 2048) / 4096) (lit< tt) (lit< tt) (omega arith) w1) in
-    let e2 = goes (core_at (pc + 4) r1 m) (core_at (pc + 4 + 4) r2 m) input told (addi_goes (core_at (pc + 4) r1 m) 11 11 (v % 4096) (record { low = omega arith; high = omega arith }) (lit< tt) (lit< tt) (omega arith) w2) (addi_quiet (core_at (pc + 4) r1 m) 11 11 (v % 4096) (lit< tt) (lit< tt) (omega arith) w2) in
-    let e3 = goes (core_at (pc + 4 + 4) r2 m) (core_at (pc + 4 + 4 + 4) r3 m) input told (last_step s.minus m r2 (pc + 4 + 4) (omega arith) (omega arith) h.1.1.0) (last_quiet s.minus m r2 (pc + 4 + 4) h.1.1.0) in
+    let e1 = goes (core_at pc r m) (core_at (pc + 4) r1 m) input told (lui_done laws (core_at pc r m) 11 ((v + 2048) / 4096) (record { low = low; high = omega arith }) (lit< tt) (lit< tt) (omega arith) w1) in
+    let e2 = goes (core_at (pc + 4) r1 m) (core_at (pc + 4 + 4) r2 m) input told (addi_done laws (core_at (pc + 4) r1 m) 11 11 (v % 4096) (record { low = omega arith; high = omega arith }) (lit< tt) (lit< tt) (omega arith) w2) in
+    let e3 = goes (core_at (pc + 4 + 4) r2 m) (core_at (pc + 4 + 4 + 4) r3 m) input told (last_step laws s.minus m r2 (pc + 4 + 4) (omega arith) (omega arith) h.1.1.0) in
     let p : pc + 4 + 4 + 4 ≡ pc + 12 = omega arith in
     let start = world (core_at pc r m) input told in
-    let all = then_on 2 1 start _ _ (then_on 1 1 start _ _ e1 e2) e3 in
+    let all = then_on laws 2 1 start _ _ (then_on laws 1 1 start _ _ e1 e2) e3 in
     record {
       registers = r3;
       known = summand_registers s r total k small;
       run = subst (λ (q : ℕ). GoesOn 3 start (world (core_at q r3 m) input told)) p all;
-      words = subst (λ (q : ℕ). Has m q ws) p h.1.1.1;
+      words = subst (λ (q : ℕ). Stand m q ws) p h.1.1.1;
     }
 
 abbrev pub AreSmall : List Summand → Type 0
@@ -180,26 +175,26 @@ AreSmall (s ∷ ss) = (s.value ≤ 2147483647) × AreSmall ss
 none_on : (w : World) → GoesOn 0 w w
 none_on w = record { comes = steps_none w; only = λ k number h before. absurd (omega arith) }
 
-sum_runs : (ss : List Summand) (ws m r : List ℕ) (pc total : ℕ) (input : List ℕ) (told : List Tell) → Registers r total → AreSmall ss → 4096 ≤ pc → pc + 12 * length ss ≤ 2097152 → Has m pc (sum_words ss ++ ws) → Arrives (3 * length ss) (pc + 12 * length ss) (sum_from total ss) ws m r pc input told
-sum_runs [] ws m r pc total input told k small low high h =
+sum_runs : MachineLaws → (ss : List Summand) (ws m r : List ℕ) (pc total : ℕ) (input : List ℕ) (told : List Tell) → Registers r total → AreSmall ss → 4096 ≤ pc → pc + 12 * length ss ≤ 2097152 → Stand m pc (sum_words ss ++ ws) → Arrives (3 * length ss) (pc + 12 * length ss) (sum_from total ss) ws m r pc input told
+sum_runs laws [] ws m r pc total input told k small low high h =
     let p : pc ≡ pc + 12 * 0 = omega arith in
     record {
       registers = r;
       known = k;
       run = subst (λ (q : ℕ). GoesOn 0 (world (core_at pc r m) input told) (world (core_at q r m) input told)) p (none_on (world (core_at pc r m) input told));
-      words = subst (λ (q : ℕ). Has m q ws) p h;
+      words = subst (λ (q : ℕ). Stand m q ws) p h;
     }
-sum_runs (s ∷ ss) ws m r pc total input told k small low high h =
-    let a = summand_runs s (sum_words ss ++ ws) m r pc total input told k small.0 low (omega arith) h in
-    let b = sum_runs ss ws m a.registers (pc + 12) (with_summand total s) input told a.known small.1 (omega arith) (omega arith) a.words in
+sum_runs laws (s ∷ ss) ws m r pc total input told k small low high h =
+    let a = summand_runs laws s (sum_words ss ++ ws) m r pc total input told k small.0 low (omega arith) h in
+    let b = sum_runs laws ss ws m a.registers (pc + 12) (with_summand total s) input told a.known small.1 (omega arith) (omega arith) a.words in
     let p : pc + 12 + 12 * length ss ≡ pc + 12 * length (s ∷ ss) = omega arith in
     let n : 3 + 3 * length ss ≡ 3 * length (s ∷ ss) = omega arith in
     let start = world (core_at pc r m) input told in
     record {
       registers = b.registers;
       known = b.known;
-      run = subst (λ (q : ℕ). GoesOn (3 * length (s ∷ ss)) start (world (core_at q b.registers m) input told)) p (subst (λ (j : ℕ). GoesOn j start (world (core_at (pc + 12 + 12 * length ss) b.registers m) input told)) n (then_on 3 (3 * length ss) start _ _ a.run b.run));
-      words = subst (λ (q : ℕ). Has m q ws) p b.words;
+      run = subst (λ (q : ℕ). GoesOn (3 * length (s ∷ ss)) start (world (core_at q b.registers m) input told)) p (subst (λ (j : ℕ). GoesOn j start (world (core_at (pc + 12 + 12 * length ss) b.registers m) input told)) n (then_on laws 3 (3 * length ss) start _ _ a.run b.run));
+      words = subst (λ (q : ℕ). Stand m q ws) p b.words;
     }
 
 -- the call that exits
@@ -221,27 +216,27 @@ only_exit c input told one k number h before =
     let same = ap (λ (n : ℕ). (steps n w).machine.core) first ∙ ap (λ (x : World). x.machine.core) (steps_none w) in
     sym before.number_is ∙ ap (λ (d : Core). register_of d 17) same ∙ one
 
-exit_runs : (m r : List ℕ) (pc total : ℕ) (input : List ℕ) (told : List Tell) → Registers r total → 4096 ≤ pc → pc + 8 ≤ 2097152 → Has m pc exit_words → ExitsIn 2 (total % 256) (world (core_at pc r m) input told)
-exit_runs m r pc total input told k low high h =
+exit_runs : MachineLaws → (m r : List ℕ) (pc total : ℕ) (input : List ℕ) (told : List Tell) → Registers r total → 4096 ≤ pc → pc + 8 ≤ 2097152 → Stand m pc exit_words → ExitsIn 2 (total % 256) (world (core_at pc r m) input told)
+exit_runs laws m r pc total input told k low high h =
     let r1 = set r 17 (sum (get_or r 0 0) 1) in
     let w = world (core_at pc r m) input told in
     let c1 = core_at (pc + 4) r1 m in
-    let e1 = goes (core_at pc r m) c1 input told (addi_goes (core_at pc r m) 17 0 1 (record { low = low; high = omega arith }) (lit< tt) (lit< tt) (lit< tt) h.0) (addi_quiet (core_at pc r m) 17 0 1 (lit< tt) (lit< tt) (lit< tt) h.0) in
-    let e2 = ecall_asks c1 (record { low = omega arith; high = omega arith }) h.1.0 in
+    let e1 = goes (core_at pc r m) c1 input told (addi_done laws (core_at pc r m) 17 0 1 (record { low = low; high = omega arith }) (lit< tt) (lit< tt) (lit< tt) h.0) in
+    let e2 = ecall_asks laws c1 (record { low = omega arith; high = omega arith }) h.1.0 in
     let l = k.long in
     let n : 10 ≢ 17 = omega arith in
     let a : get_or r1 17 0 ≡ 1 = get_or-set_same r 17 _ 0 (omega arith) ∙ ap (λ (x : ℕ). sum x 1) k.zero_is in
     let b : get_or r1 10 0 ≡ total = get_or-set_other r 17 10 _ 0 n ∙ k.total_is in
     record {
-      ends = ap (λ (x : World). x.machine.ending) (steps_add 1 1 w ∙ ap (steps 1) e1.comes ∙ one_is (world c1 input told)) ∙ exit_call c1 total input told e2 a b;
-      only = only_then 1 1 w (world c1 input told) e1 (only_exit c1 input told a);
+      ends = ap (λ (x : World). x.machine.ending) (sym (laws.add 1 1 w) ∙ ap (steps 1) e1.comes ∙ one_is (world c1 input told)) ∙ exit_call c1 total input told e2 a b;
+      only = only_then laws 1 1 w (world c1 input told) e1 (only_exit c1 input told a);
     }
 
 size_is : memory_size ≡ 33554432
 unfolding memory_size
 size_is = refl
 
-are_words : (ss : List Summand) → AreSmall ss → AreWords (sum_words ss ++ exit_words)
+are_words : (ss : List Summand) → AreSmall ss → AllByRecursion IsWord (sum_words ss ++ exit_words)
 are_words [] h = (lit< tt, (lit< tt, tt))
 are_words (s ∷ ss) h = (omega (arith, h.0), (omega (arith, h.0), (by s.minus, are_words ss h.1)))
   where
@@ -258,21 +253,21 @@ unfolding start start_memory
 start_is image ss h = rw (h.entry, h.text, h.globals, h.frames, h.initial) refl
 
 -- the image exits in so many instructions with the low eight bits of the sum
-image_runs : (image : Image) (ss : List Summand) (input : List ℕ) → IsCompiled ss image → AreSmall ss → length ss ≤ 200 → ExitsIn (3 * length ss + 2) (sum_from 0 ss % 256) (machine_after image input 0)
-image_runs image ss input h small few =
+image_runs : MachineLaws → (image : Image) (ss : List Summand) (input : List ℕ) → IsCompiled ss image → AreSmall ss → length ss ≤ 200 → ExitsIn (3 * length ss + 2) (sum_from 0 ss % 256) (machine_after image input 0)
+image_runs laws image ss input h small few =
     let ws = sum_words ss ++ exit_words in
     let m0 = replicate memory_size 0 in
     let m = written_at m0 4096 (bytes_of_words ws) in
     let w0 = world (core_at 4096 start_registers m) input [] in
     let fits : 4096 + 4 * length ws ≤ length m0 = omega (arith, words_length ss, length-replicate {A = ℕ} memory_size 0, size_is) in
-    let stand = words_stand ws m0 4096 (are_words ss small) fits in
+    let stand = laws.stand m0 4096 ws (All-from_recursion IsWord ws (are_words ss small)) fits in
     let k : Registers start_registers 0 = record { long = refl; total_is = refl; zero_is = refl } in
-    let a = sum_runs ss exit_words m start_registers 4096 0 input [] k small (lit≤ tt) (omega arith) stand in
-    let b = exit_runs m a.registers (4096 + 12 * length ss) (sum_from 0 ss) input [] a.known (omega arith) (omega arith) a.words in
+    let a = sum_runs laws ss exit_words m start_registers 4096 0 input [] k small (lit≤ tt) (omega arith) stand in
+    let b = exit_runs laws m a.registers (4096 + 12 * length ss) (sum_from 0 ss) input [] a.known (omega arith) (omega arith) a.words in
     let v = world (core_at (4096 + 12 * length ss) a.registers m) input [] in
     let all : ExitsIn (3 * length ss + 2) (sum_from 0 ss % 256) w0 = record {
-      ends = ap (λ (x : World). x.machine.ending) (steps_add 2 (3 * length ss) w0 ∙ ap (steps 2) a.run.comes) ∙ b.ends;
-      only = only_then (3 * length ss) 2 w0 v a.run b.only;
+      ends = ap (λ (x : World). x.machine.ending) (sym (laws.add (3 * length ss) 2 w0) ∙ ap (steps 2) a.run.comes) ∙ b.ends;
+      only = only_then laws (3 * length ss) 2 w0 v a.run b.only;
     } in
     let same : w0 ≡ machine_after image input 0 = sym (steps_none (record { machine = start image; left = input; told = [] }) ∙ ap (λ (s : State). record { machine = s; left = input; told = [] }) (start_is image ss h)) in
     subst (ExitsIn (3 * length ss + 2) (sum_from 0 ss % 256)) same all
@@ -281,26 +276,26 @@ after_is : (image : Image) (input : List ℕ) (n : ℕ) → machine_after image 
 after_is image input n = ap (steps n) (sym (steps_none (record { machine = start image; left = input; told = [] })))
 
 -- from then on it stays so
-pub image_exits : (image : Image) (ss : List Summand) (input : List ℕ) (n : ℕ) → IsCompiled ss image → AreSmall ss → length ss ≤ 200 → 3 * length ss + 2 ≤ n → (machine_after image input n).machine.ending ≡ Some (Exited (sum_from 0 ss % 256))
-image_exits image ss input n h small few le =
-    let r = image_runs image ss input h small few in
-    let stay = steps_stay n (3 * length ss + 2) (machine_after image input 0) (some r.ends) le in
+pub image_exits : MachineLaws → (image : Image) (ss : List Summand) (input : List ℕ) (n : ℕ) → IsCompiled ss image → AreSmall ss → length ss ≤ 200 → 3 * length ss + 2 ≤ n → (machine_after image input n).machine.ending ≡ Some (Exited (sum_from 0 ss % 256))
+image_exits laws image ss input n h small few le =
+    let r = image_runs laws image ss input h small few in
+    let stay = laws.stay n (3 * length ss + 2) (machine_after image input 0) (some r.ends) le in
     ap (λ (w : World). w.machine.ending) (after_is image input n ∙ stay) ∙ r.ends
   where
     some : {o : Option Halt} {x : Halt} → o ≡ Some x → IsSome o
     some e = ap is_some e
 
 -- and the only environment call that it makes is exit
-pub image_only_exits : (image : Image) (ss : List Summand) (input : List ℕ) (n number : ℕ) → IsCompiled ss image → AreSmall ss → length ss ≤ 200 → IsBeforeCall number (machine_after image input n).machine → number ≡ 1
-image_only_exits image ss input n number h small few before = by (leb (3 * length ss + 2) n) refl
+pub image_only_exits : MachineLaws → (image : Image) (ss : List Summand) (input : List ℕ) (n number : ℕ) → IsCompiled ss image → AreSmall ss → length ss ≤ 200 → IsBeforeCall number (machine_after image input n).machine → number ≡ 1
+image_only_exits laws image ss input n number h small few before = by (leb (3 * length ss + 2) n) refl
   where
     by : (t : Bool) → leb (3 * length ss + 2) n ≡ t → number ≡ 1
     by true e =
         let le : 3 * length ss + 2 ≤ n = grind (arith, nat_tests) in
-        let ended = image_exits image ss input n h small few le in
+        let ended = image_exits laws image ss input n h small few le in
         let running = before.running in
         absurd (cc)
     by false e =
         let lt : n < 3 * length ss + 2 = grind (arith, nat_tests) in
-        let r = image_runs image ss input h small few in
+        let r = image_runs laws image ss input h small few in
         r.only n number lt (subst (λ (w : World). IsBeforeCall number w.machine) (after_is image input n) before)

@@ -14,6 +14,7 @@ use crate::reader::{ReadError, read_file};
 use crate::words::{Command, command_in};
 use bb_outside::{Shelf, Sink, Source};
 use rv_image::image::Image;
+use rv_machine::laws;
 use rv_machine::machine::Machine;
 use std::alloc::Global;
 
@@ -116,6 +117,10 @@ fn answer_text<I: Source, O: Sink>(
         (record { left = I.left input.new; is_over = I.is_over input.new; written = O.written output.new })
         result.ending result.image }
 {
+    laws::instruction_done();
+    laws::words_stand();
+    laws::steps_add();
+    laws::ending_stays();
     match build(alloc, text) {
         Err(BuildError::Refused(error)) => without_image(Ending::Refused { error }),
         Err(BuildError::Memory) => without_image(Ending::NoMemory),

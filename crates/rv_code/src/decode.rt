@@ -3,7 +3,6 @@ ghost use Rattle.std.specs.Prelude.{◌≡◌, ◌≢◌, IfSome, IfNone};
 ghost use Rattle.rv_code.specs.declared.instr.Instr.{Instr};
 ghost use Rattle.rv_code.specs.Formats.{funct3_of, funct7_of, funct12_of, rd_of, rs1_of, rs2_of, i_immediate, s_immediate, b_immediate};
 ghost use Rattle.rv_code.specs.Code.{Fits, Encodes, word_of, instruction_of, jalr_row, branch_row, load_row, store_row, left_shift_row, right_shift_row, op_imm_row, base_row, extension_m_row, alternate_row, op_row, fence_row, system_row};
-ghost use Rattle.rv_code.specs.Laws.{ReadsBack, ReadsOnly};
 
 use crate::fields::{
     funct3, funct7, funct12, immediate_b, immediate_i, immediate_j, immediate_s, immediate_u,
@@ -23,16 +22,6 @@ pub fn decode(word: Word) -> Option<Instr>
 {
     instruction(word.0)
 }
-
-/// The word of an instruction whose fields fit is read as that instruction.
-pub fn reads_back()
-    ensures { ReadsBack }
-{}
-
-/// A word that is read as an instruction is the word of that instruction, whose fields fit.
-pub fn reads_only()
-    ensures { ReadsOnly }
-{}
 
 /// The instruction of a word, by its major opcode.
 #[inline]

@@ -5,6 +5,7 @@ pub mod decode;
 pub mod encode;
 mod fields;
 pub mod instr;
+pub mod laws;
 mod opcodes;
 #[cfg(test)]
 mod tests;

@@ -1,5 +1,5 @@
 -- An instruction keeps what holds of the core of every machine.
-use Rattle.std.proofs.Common.{◌≡◌, ◌≢◌, ℕ, ◌+◌, ◌%◌, ◌<◌, ◌≤◌, Bool, true, false, cond, eqb, ltb, leb, List, [], ◌∷◌, length, get_or, set, Option, Some, None, refl, sym, subst, ◌∙◌, arith, lit<, get_or-set_other, length-set}
+use Rattle.std.proofs.Common.{◌≡◌, ◌≢◌, ℕ, ◌+◌, ◌%◌, ◌^◌, ◌<◌, ◌≤◌, Bool, true, false, cond, eqb, ltb, leb, List, [], ◌∷◌, length, get_or, set, Option, Some, None, refl, sym, subst, ◌∙◌, arith, lit<, get_or-set_other, length-set}
 use Rattle.std.specs.Prelude.{All, ◌||◌, IfSome}
 use Rattle.std.specs.Int.{to_le_bytes, w16, w32}
 use Rattle.std.proofs.Math.ListN.{get_or-eq_default}
@@ -9,10 +9,10 @@ use Rattle.bb_words.specs.Numbers.{sum}
 use Rattle.bb_words.specs.declared.kinds.TrapKind.{TrapKind}
 use Rattle.bb_words.specs.declared.kinds.TrapKind.TheVariants.{Fetch}
 use Rattle.rv_code.specs.Bits.{extended}
-use Rattle.rv_code.specs.Code.{Fits, Encodes, instruction_of}
+use Rattle.rv_code.specs.Code.{Fits, instruction_of}
 use Rattle.rv_code.specs.declared.instr.Instr.{Instr}
 use Rattle.rv_code.specs.declared.instr.Instr.TheVariants.{Lui, Auipc, Jal, Jalr, Beq, Bne, Blt, Bge, Bltu, Bgeu, Lb, Lh, Lw, Lbu, Lhu, Sb, Sh, Sw, Addi, Slti, Sltiu, Xori, Ori, Andi, Slli, Srli, Srai, Add, Sub, Sll, Slt, Sltu, Xor, Srl, Sra, Or, And, Mul, Mulh, Mulhsu, Mulhu, Div, Divu, Rem, Remu, Fence, Ecall, Ebreak}
-use Rattle.rv_code.proofs.Rows.{read_encodes}
+use Rattle.rv_code.specs.Laws.{ReadsOnly}
 use Rattle.rv_machine.specs.Formed.{IsWord, IsByte, IsCore}
 use Rattle.rv_machine.specs.Instruction.{Act, Goes, Traps, Asks, access_trap, unless_trap, loads, stores, jumps, links, branches, address, even, effect, effect_of, core_step}
 use Rattle.rv_machine.specs.Memory.{half_at, word_at, written_at}
@@ -44,10 +44,10 @@ at_pc : (pc : ℕ) (c : Core) → IsCore c → IsWord pc → IsCore (record c { 
 at_pc pc c h p = record { pc = p; registers = h.registers; words = h.words; zero = h.zero; memory = h.memory; bytes = h.bytes }
 
 -- in the text's region
-next_core : (c : Core) → IsCore c → c.pc < 2097152 → IsCore (next c)
+pub next_core : (c : Core) → IsCore c → c.pc < 2097152 → IsCore (next c)
 next_core c h t = at_pc (c.pc + 4) c h (omega (arith, t))
 
-gives_core : (rd v : ℕ) (c : Core) → IsCore c → c.pc < 2097152 → IsWord v → IsCore (gives rd v c)
+pub gives_core : (rd v : ℕ) (c : Core) → IsCore c → c.pc < 2097152 → IsWord v → IsCore (gives rd v c)
 gives_core rd v c h t p = at_pc (c.pc + 4) (set_register rd v c) (set_core rd v c h p) (omega (arith, t))
 
 unless_core : (trap : Option TrapKind) (c : Core) → IsCore c → IfGoes IsCore (unless_trap trap c)
@@ -192,17 +192,17 @@ fetched_core : (o : Option Instr) → IfSome o Fits → (c : Core) → IsCore c 
 fetched_core None f c h t = tt
 fetched_core (Some i) f c h t = effect_core i f c h t
 
-fits_if : (word : ℕ) (o : Option Instr) → IfSome o (Encodes word) → IfSome o Fits
-fits_if word None e = tt
-fits_if word (Some i) e = e.0
+fits_if : ReadsOnly → (word : ℕ) → word < 2 ^ 32 → (o : Option Instr) → instruction_of word ≡ o → IfSome o Fits
+fits_if only word small None e = tt
+fits_if only word small (Some i) e = (only word i small e).0
 
-step_if : (b : Bool) (c : Core) → IsCore c → ltb c.pc 4096 || leb 2097152 c.pc ≡ b → IfGoes IsCore (cond b (Traps Fetch) (effect_of (instruction_of (word_at c.memory c.pc)) c))
-step_if true c h e = tt
-step_if false c h e =
+step_if : ReadsOnly → (b : Bool) (c : Core) → IsCore c → ltb c.pc 4096 || leb 2097152 c.pc ≡ b → IfGoes IsCore (cond b (Traps Fetch) (effect_of (instruction_of (word_at c.memory c.pc)) c))
+step_if only true c h e = tt
+step_if only false c h e =
     let t : c.pc < 2097152 = grind (arith, nat_tests) in
     let o = instruction_of (word_at c.memory c.pc) in
-    fetched_core o (fits_if (word_at c.memory c.pc) o (read_encodes (word_at c.memory c.pc) (whole c c.pc h))) c h t
+    fetched_core o (fits_if only (word_at c.memory c.pc) (whole c c.pc h) o refl) c h t
 
-pub step_core : (c d : Core) → IsCore c → core_step c ≡ Goes d → IsCore d
+pub step_core : ReadsOnly → (c d : Core) → IsCore c → core_step c ≡ Goes d → IsCore d
 unfolding core_step
-step_core c d h e = subst (IfGoes IsCore) e (step_if (ltb c.pc 4096 || leb 2097152 c.pc) c h refl)
+step_core only c d h e = subst (IfGoes IsCore) e (step_if only (ltb c.pc 4096 || leb 2097152 c.pc) c h refl)

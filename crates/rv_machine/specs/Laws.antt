@@ -1,11 +1,12 @@
 -- The laws of the machine.
-use Rattle.std.specs.Prelude.{◌≡◌, ◌==◌, ℕ, ◌+◌, ◌%◌, ◌≤◌, ◌<◌, ◌^◌, List, [], ◌∷◌, ◌++◌, map, Option, Some, None, IsSome, if◌then◌else◌, length}
+use Rattle.std.specs.Prelude.{◌≡◌, ◌==◌, ℕ, ◌+◌, ◌*◌, ◌%◌, ◌≤◌, ◌<◌, ◌^◌, List, [], ◌∷◌, ◌++◌, map, All, Option, Some, None, IsSome, if◌then◌else◌, length}
 use Rattle.std.specs.Int.{to_le_bytes, w32}
 use Rattle.rv_code.specs.Code.{Fits, word_of}
 use Rattle.rv_code.specs.declared.instr.Instr.{Instr}
 use Rattle.rv_machine.specs.declared.stop.Halt.{Halt}
 use Rattle.rv_machine.specs.State.{Core, State, register_of}
-use Rattle.rv_machine.specs.Memory.{word_at, written_at}
+use Rattle.rv_machine.specs.Memory.{word_at, written_at, bytes_of_words, Stand}
+use Rattle.rv_machine.specs.Formed.{IsWord}
 use Rattle.rv_machine.specs.Instruction.{Act, Goes, Traps, Asks, core_step, core_events, instruction_at, effect, event_of}
 use Rattle.rv_machine.specs.Environment.{Tell, Output, Happens, World, enter_events, leave_events}
 use Rattle.rv_machine.specs.Machine.{step, steps}
@@ -54,3 +55,11 @@ InstructionDone = (c : Core) (i : Instr) → 4096 ≤ c.pc → c.pc < 2097152 �
 -- a word that was written is read back
 abbrev pub WordReadBack : Type 0
 WordReadBack = (memory : List ℕ) (at word : ℕ) → at + 4 ≤ length memory → word < 2 ^ 32 → word_at (written_at memory at (to_le_bytes w32 word)) at ≡ word
+
+-- words that were written stand in memory
+abbrev pub WordsStand : Type 0
+WordsStand = (memory : List ℕ) (at : ℕ) (words : List ℕ) → All IsWord words → at + 4 * length words ≤ length memory → Stand (written_at memory at (bytes_of_words words)) at words
+
+-- instructions that are done in pieces are done at once
+abbrev pub StepsAdd : Type 0
+StepsAdd = (k d : ℕ) (w : World) → steps d (steps k w) ≡ steps (k + d) w

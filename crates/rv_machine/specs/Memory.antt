@@ -1,5 +1,5 @@
 -- Bytes and words in memory.
-use Rattle.std.specs.Prelude.{ℕ, ◌<◌, ◌≤◌, ◌+◌, ◌-◌, ◌^◌, List, [], ◌∷◌, ◌++◌, replicate, slice_index, slice_set}
+use Rattle.std.specs.Prelude.{◌≡◌, ℕ, ◌<◌, ◌≤◌, ◌+◌, ◌-◌, ◌^◌, List, [], ◌∷◌, ◌++◌, replicate, slice_index, slice_set}
 use Rattle.std.specs.Int.{from_le_bytes, to_le_bytes, w16, w32}
 
 -- the two bytes at an address as a number, the lower one first
@@ -19,6 +19,11 @@ written_at memory at (byte ∷ bytes) = written_at (slice_set memory at byte) (a
 abbrev pub bytes_of_words : List ℕ → List ℕ
 bytes_of_words [] = []
 bytes_of_words (word ∷ words) = to_le_bytes w32 word ++ bytes_of_words words
+
+-- the words stand in memory from an address on, one after another
+abbrev pub Stand : List ℕ → ℕ → List ℕ → Type 0
+Stand memory at [] = Unit {0}
+Stand memory at (word ∷ words) = (word_at memory at ≡ word) × Stand memory (at + 4) words
 
 -- The bytes of the size table for blocks of these exponents that lie one after another: a slot of 16 bytes has the
 -- exponent of its block.

@@ -1,5 +1,5 @@
 //! The laws of the machine, for what stands on it.
-ghost use Rattle.rv_machine.specs.Laws.{EndingStays, StepTells, ToldGrows, FieldsFit, InstructionDone, WordReadBack};
+ghost use Rattle.rv_machine.specs.Laws.{EndingStays, StepTells, ToldGrows, FieldsFit, InstructionDone, WordReadBack, WordsStand, StepsAdd};
 ghost use Rattle.rv_machine.specs.Formed.{CoreStays};
 
 /// A machine that has ended stays as it is.
@@ -20,12 +20,16 @@ pub fn told_grows()
 /// The fields of an instruction that is fetched fit.
 pub fn fields_fit()
     ensures { FieldsFit }
-{}
+{
+    rv_code::laws::reads_only();
+}
 
 /// The instruction whose word stands at the program counter is done.
 pub fn instruction_done()
     ensures { InstructionDone }
-{}
+{
+    rv_code::laws::reads_back();
+}
 
 /// A word that was written is read back.
 pub fn word_read_back()
@@ -35,4 +39,16 @@ pub fn word_read_back()
 /// An instruction keeps 32 registers with words in them, register 0 at 0, and the memory's size and bytes.
 pub fn core_stays()
     ensures { CoreStays }
+{
+    rv_code::laws::reads_only();
+}
+
+/// Words that were written stand in memory.
+pub fn words_stand()
+    ensures { WordsStand }
+{}
+
+/// Instructions that are done in pieces are done at once.
+pub fn steps_add()
+    ensures { StepsAdd }
 {}

@@ -1,5 +1,5 @@
 use Rattle.rv_code.proofs.RoundTrip.{read_back}
-use Rattle.rv_code.proofs.decode.reads_back.Goals as goal
+use Rattle.rv_code.proofs.laws.reads_back.Goals as goal
 
 pub returns : goal.returns
 returns c = read_back
