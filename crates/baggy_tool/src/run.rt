@@ -117,10 +117,12 @@ fn answer_text<I: Source, O: Sink>(
         (record { left = I.left input.new; is_over = I.is_over input.new; written = O.written output.new })
         result.ending result.image }
 {
+    // What the machine does at the image's words.
     laws::instruction_done();
     laws::words_stand();
     laws::steps_add();
     laws::ending_stays();
+
     match build(alloc, text) {
         Err(BuildError::Refused(error)) => without_image(Ending::Refused { error }),
         Err(BuildError::Memory) => without_image(Ending::NoMemory),
