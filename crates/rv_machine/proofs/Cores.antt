@@ -206,3 +206,12 @@ step_if only false c h e =
 pub step_core : ReadsOnly → (c d : Core) → IsCore c → core_step c ≡ Goes d → IsCore d
 unfolding core_step
 step_core only c d h e = subst (IfGoes IsCore) e (step_if only (ltb c.pc 4096 || leb 2097152 c.pc) c h refl)
+
+in_text_if : (b : Bool) (c : Core) (act : Act) → ltb c.pc 4096 || leb 2097152 c.pc ≡ b → cond b (Traps Fetch) act ≡ Asks → c.pc < 2097152
+in_text_if true c act e h = cc
+in_text_if false c act e h = grind (arith, nat_tests)
+
+-- the environment is asked by an instruction in the text
+pub asks_in_text : (c : Core) → core_step c ≡ Asks → c.pc < 2097152
+unfolding core_step
+asks_in_text c h = in_text_if (ltb c.pc 4096 || leb 2097152 c.pc) c (effect_of (instruction_of (word_at c.memory c.pc)) c) refl h

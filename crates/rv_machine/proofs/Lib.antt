@@ -8,4 +8,14 @@ pub mod Layouts
 pub mod Tells
 pub mod Bounds
 pub mod Cores
-pub mod Stacks
+pub mod Parts
+pub mod BlockLists
+pub mod LiveLists
+pub mod CallChain
+pub mod Changes
+pub mod BlockMemory
+pub mod TableMemory
+pub mod Starts
+pub mod Cases
+pub mod Forms
+pub mod MemoryLaws

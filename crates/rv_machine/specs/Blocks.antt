@@ -1,6 +1,6 @@
 -- Blocks that are made and ended in memory.
 use Rattle.std.specs.Prelude.{ℕ, ◌+◌, ◌/◌, ◌^◌, ◌<◌, ◌≤◌, List, [], ◌∷◌, length, slice_index}
-use Rattle.size_table.specs.Blocks.{Block, IsBlock, block_at}
+use Rattle.size_table.specs.Blocks.{Block, block_at}
 use Rattle.size_table.specs.Table.{filled}
 
 -- the byte of each slot of the block in the size table, which lies from 0x200000 on, is this one
@@ -29,11 +29,6 @@ all_ended (b ∷ bs) memory = ended b (all_ended bs memory)
 abbrev pub blocks_from : ℕ → List ℕ → List Block
 blocks_from base [] = []
 blocks_from base (e ∷ es) = block_at base e ∷ blocks_from (base + 2 ^ e) es
-
--- each is a block of whole slots, aligned to its size and within memory
-abbrev pub AreBlocks : List Block → Type 0
-AreBlocks [] = Unit {0}
-AreBlocks (b ∷ bs) = IsBlock 4 b × AreBlocks bs
 
 -- each exponent is that of a block from one slot to 16 MiB
 abbrev pub AreExponents : List ℕ → Type 0

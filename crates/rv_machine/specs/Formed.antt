@@ -1,7 +1,13 @@
--- What holds of the core of every machine.
-use Rattle.std.specs.Prelude.{◌≡◌, ℕ, ◌^◌, ◌<◌, length, All}
+-- What holds of every machine that a run of an image comes to.
+use Rattle.std.specs.Prelude.{◌≡◌, ◌⊎◌, ℕ, ◌^◌, ◌<◌, ◌≤◌, List, ◌++◌, length, All}
+use Rattle.rv_image.specs.declared.image.Image.{Image}
+use Rattle.rv_machine.specs.Environment.{World, events_of}
+use Rattle.rv_machine.specs.Frames.{AreCalls}
+use Rattle.rv_machine.specs.Live.{global_blocks, call_blocks, live_of}
 use Rattle.rv_machine.specs.State.{Core, register_of, memory_size}
-use Rattle.rv_machine.specs.Instruction.{Goes, core_step}
+use Rattle.size_table.specs.Blocks.{Block, IsBlock, AreDisjoint, end_of}
+
+-- ---- Registers and memory
 
 abbrev pub IsWord : ℕ → Type 0
 IsWord n = n < 2 ^ 32
@@ -18,6 +24,31 @@ pub record IsCore (c : Core) : Type 0 where
   pub memory : length c.memory ≡ memory_size
   pub bytes : All IsByte c.memory
 
--- an instruction keeps this
-abbrev pub CoreStays : Type 0
-CoreStays = (c d : Core) → IsCore c → core_step c ≡ Goes d → IsCore d
+-- ---- Blocks
+
+-- the block lies among the globals, or on the data stack
+abbrev pub IsInRegion : Block → Type 0
+IsInRegion b = ((10485760 ≤ b.base) × (end_of b ≤ 12582912)) ⊎ ((12582912 ≤ b.base) × (end_of b ≤ 16777216))
+
+-- each block is aligned to its size and lies in its region, and no two of them meet
+pub record AreLaidOut (blocks : List Block) : Type 0 where
+  pub each : All (IsBlock 4) blocks
+  pub regions : All IsInRegion blocks
+  pub disjoint : AreDisjoint blocks
+
+-- ---- The whole machine
+
+-- the blocks that live after what was told
+abbrev pub live_in : Image → World → List Block
+live_in image w = live_of (global_blocks image) (events_of w.told)
+
+-- A machine of the image, with its input and what it has told: its core is one, at most 4,096 calls are entered, each
+-- under the one before it from the upper end of the data stack on, and the blocks that live after what was told are
+-- those of the globals and of these calls.
+pub record IsFormed (image : Image) (w : World) : Type 0 where
+  pub core : IsCore w.machine.core
+  pub input : All IsByte w.left
+  pub layouts : w.machine.frames.layouts ≡ image.frames
+  pub calls : AreCalls image.frames 16777216 w.machine.frames.entered w.machine.frames.stack
+  pub few : length w.machine.frames.entered ≤ 4096
+  pub live : live_in image w ≡ global_blocks image ++ call_blocks image.frames w.machine.frames.entered

@@ -1,11 +1,11 @@
 -- Frames that are entered and left.
 use Rattle.std.specs.Prelude.{◌≡◌, ◌==◌, ℕ, ◌-◌, ◌*◌, ◌/◌, ◌^◌, ◌≤◌, List, [], ◌∷◌, ◌++◌, reverse, Option, Some, None, length, take, nat_lt, nat_le, if◌then◌else◌, slice_get}
 use Rattle.size_table.specs.Blocks.{Block}
-use Rattle.rv_image.specs.Rules.{Decline, total_size}
+use Rattle.rv_image.specs.Rules.{total_size}
 use Rattle.rv_machine.specs.declared.frames.Entered.{Entered}
 use Rattle.rv_machine.specs.declared.frames.Entry.{Entry}
 use Rattle.rv_machine.specs.declared.frames.Entry.TheVariants.{NoFrame, TooDeep, NoRoom, Enters}
-use Rattle.rv_machine.specs.Blocks.{all_made, all_ended, blocks_from, AreBlocks}
+use Rattle.rv_machine.specs.Blocks.{all_made, all_ended, blocks_from}
 use Rattle.rv_machine.specs.State.{Core, Frames}
 
 -- the exponent of a frame's alignment: that of its largest block, which is the first, or of a slot
@@ -80,11 +80,17 @@ leave (Some call) (Some es) k frames memory = if call.frame == k then left_to ca
 leave (Some call) None k frames memory = not_left frames memory
 leave None layout k frames memory = not_left frames memory
 
--- each frame has blocks from 16 bytes to 1 MiB, none larger than the one before, and at most 4 MiB in all
-abbrev pub AreLayouts : List (List ℕ) → Type 0
-AreLayouts layouts = (k : ℕ) (es : List ℕ) → slice_get layouts k ≡ Some es → Decline 20 es × (total_size es ≤ 4194304)
+-- ---- Calls that were entered
 
--- each of the calls, the last one first, has the blocks of its frame from its stack number on
-abbrev pub AreStacked : List (List ℕ) → List Entered → ℕ → Type 0
-AreStacked layouts [] stack = Unit {0}
-AreStacked layouts (call ∷ calls) stack = ((es : List ℕ) → slice_get layouts call.frame ≡ Some es → AreBlocks (blocks_from stack es)) × AreStacked layouts calls call.back
+-- a call was entered when the stack number was `top`, and led to the stack number `base`
+pub record IsCall (layouts : List (List ℕ)) (top base : ℕ) (call : Entered) : Type 0 where
+  pub exponents : List ℕ
+  pub layout : slice_get layouts call.frame ≡ Some exponents
+  pub back : call.back ≡ top
+  pub under : base ≡ stack_under top exponents
+  pub room : 12582912 ≤ base
+
+-- calls were entered one after another, the first when the stack number was `top`, and the last led to `stack`
+abbrev pub AreCalls : (layouts : List (List ℕ)) → (top : ℕ) → List Entered → (stack : ℕ) → Type 0
+AreCalls layouts top [] stack = top ≡ stack
+AreCalls layouts top (call ∷ calls) stack = (base : ℕ) × IsCall layouts top base call × AreCalls layouts base calls stack

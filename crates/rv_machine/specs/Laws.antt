@@ -1,15 +1,21 @@
 -- The laws of the machine.
-use Rattle.std.specs.Prelude.{◌≡◌, ◌==◌, ℕ, ◌+◌, ◌*◌, ◌%◌, ◌≤◌, ◌<◌, ◌^◌, List, [], ◌∷◌, ◌++◌, map, All, Option, Some, None, IsSome, if◌then◌else◌, length}
+use Rattle.std.specs.Prelude.{◌≡◌, ◌==◌, ℕ, ◌+◌, ◌*◌, ◌%◌, ◌≤◌, ◌<◌, ◌^◌, List, [], ◌∷◌, ◌++◌, map, All, Option, Some, None, IsSome, if◌then◌else◌, length, slice_index}
 use Rattle.std.specs.Int.{to_le_bytes, w32}
 use Rattle.rv_code.specs.Code.{Fits, word_of}
 use Rattle.rv_code.specs.declared.instr.Instr.{Instr}
+use Rattle.rv_image.specs.declared.image.Image.{Image}
+use Rattle.rv_image.specs.Rules.{IsImage}
 use Rattle.rv_machine.specs.declared.stop.Halt.{Halt}
-use Rattle.rv_machine.specs.State.{Core, State, register_of}
-use Rattle.rv_machine.specs.Memory.{word_at, written_at, bytes_of_words, Stand}
-use Rattle.rv_machine.specs.Formed.{IsWord}
+use Rattle.rv_machine.specs.Changes.{NoneChanges, AreOffTable}
+use Rattle.rv_machine.specs.Environment.{Tell, Output, Happens, World, enter_events, leave_events, events_of}
+use Rattle.rv_machine.specs.Formed.{IsWord, IsByte, IsCore, IsFormed, AreLaidOut, live_in}
 use Rattle.rv_machine.specs.Instruction.{Act, Goes, Traps, Asks, core_step, core_events, instruction_at, effect, event_of}
-use Rattle.rv_machine.specs.Environment.{Tell, Output, Happens, World, enter_events, leave_events}
-use Rattle.rv_machine.specs.Machine.{step, steps}
+use Rattle.rv_machine.specs.Machine.{step, steps, machine_after}
+use Rattle.rv_machine.specs.Memory.{word_at, written_at, bytes_of_words, Stand}
+use Rattle.rv_machine.specs.Safety.{table_in}
+use Rattle.rv_machine.specs.Start.{start_memory}
+use Rattle.rv_machine.specs.State.{Core, State, register_of}
+use Rattle.size_table.specs.Table.{IsTableOf}
 
 -- a machine that has ended stays as it is
 abbrev pub EndingStays : Type 0
@@ -63,3 +69,40 @@ WordsStand = (memory : List ℕ) (at : ℕ) (words : List ℕ) → All IsWord wo
 -- instructions that are done in pieces are done at once
 abbrev pub StepsAdd : Type 0
 StepsAdd = (k d : ℕ) (w : World) → steps d (steps k w) ≡ steps (k + d) w
+
+-- an instruction keeps what holds of the core of every machine
+abbrev pub CoreStays : Type 0
+CoreStays = (c d : Core) → IsCore c → core_step c ≡ Goes d → IsCore d
+
+-- an instruction, an environment call among them, keeps what holds of every machine of an image
+abbrev pub FormStays : Type 0
+FormStays = (image : Image) (w : World) → IsImage image → IsFormed image w → IsFormed image (step w)
+
+-- so it holds in every run
+abbrev pub RunsAreFormed : Type 0
+RunsAreFormed = (image : Image) (input : List ℕ) (n : ℕ) → IsImage image → All IsByte image.initial → All IsByte input → IsFormed image (machine_after image input n)
+
+-- the live blocks are aligned to their size and lie in their regions, and no two of them meet
+abbrev pub LiveAreLaidOut : Type 0
+LiveAreLaidOut = (image : Image) (w : World) → IsImage image → IsFormed image w → AreLaidOut (live_in image w)
+
+-- A byte of the memory stays unless an event tells that it was written. Environment calls tell of blocks alone, so they
+-- write to blocks that they make and to the size table.
+abbrev pub OnlyToldChange : Type 0
+OnlyToldChange = (image : Image) (w : World) (at : ℕ) → IsImage image → IsFormed image w → NoneChanges (events_of (tells_of w.machine)) at → slice_index (step w).machine.core.memory at ≡ slice_index w.machine.core.memory at
+
+-- the text's region stays as it was at the start
+abbrev pub TextStays : Type 0
+TextStays = (image : Image) (input : List ℕ) (n at : ℕ) → IsImage image → All IsByte image.initial → All IsByte input → at < 2097152 → slice_index (machine_after image input n).machine.core.memory at ≡ slice_index (start_memory image) at
+
+-- the words of the text stand there in every run
+abbrev pub TextStands : Type 0
+TextStands = (image : Image) (input : List ℕ) (n : ℕ) → IsImage image → All IsByte image.initial → All IsByte input → All IsWord image.text → Stand (machine_after image input n).machine.core.memory 4096 image.text
+
+-- the size table is that of the live blocks, before and after an instruction that does not itself write to it
+abbrev pub TableFollows : Type 0
+TableFollows = (image : Image) (w : World) → IsImage image → IsFormed image w → AreOffTable (events_of (tells_of w.machine)) → IsTableOf 4 (live_in image w) (table_in w.machine.core.memory) → IsTableOf 4 (live_in image (step w)) (table_in (step w).machine.core.memory)
+
+-- so it is in every run of a program that never writes to it
+abbrev pub RunsHaveTable : Type 0
+RunsHaveTable = (image : Image) (input : List ℕ) (n : ℕ) → IsImage image → All IsByte image.initial → All IsByte input → AreOffTable (events_of (machine_after image input n).told) → IsTableOf 4 (live_in image (machine_after image input n)) (table_in (machine_after image input n).machine.core.memory)

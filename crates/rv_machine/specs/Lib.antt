@@ -10,5 +10,6 @@ pub mod Runs
 pub mod Live
 pub mod Safety
 pub mod Seen
-pub mod Laws
 pub mod Formed
+pub mod Changes
+pub mod Laws

@@ -1,14 +1,26 @@
 -- The blocks that are live in a run, those that ever were, and the block that a word belongs to.
-use Rattle.std.specs.Prelude.{◌==◌, ℕ, ◌+◌, ◌-◌, ◌/◌, ◌%◌, ◌^◌, List, [], ◌∷◌, ◌++◌, Option, Some, None, nat_lt, if◌then◌else◌}
+use Rattle.std.specs.Prelude.{◌==◌, ℕ, ◌+◌, ◌-◌, ◌/◌, ◌%◌, ◌^◌, List, [], ◌∷◌, ◌++◌, Option, Some, None, nat_lt, if◌then◌else◌, slice_get}
 use Rattle.bb_watch.specs.declared.event.Event.{Event}
 use Rattle.bb_watch.specs.declared.event.Event.TheVariants.{Made, Ended}
 use Rattle.rv_image.specs.declared.image.Image.{Image}
+use Rattle.rv_machine.specs.declared.frames.Entered.{Entered}
 use Rattle.rv_machine.specs.Blocks.{blocks_from}
+use Rattle.rv_machine.specs.Frames.{stack_under}
 use Rattle.size_table.specs.Blocks.{Block, block_at, holds}
 
 -- the blocks of the global objects, which are live from the start on
 abbrev pub global_blocks : Image → List Block
 global_blocks image = blocks_from 10485760 image.globals
+
+-- the blocks of a frame that was entered when the stack number was `back`
+abbrev pub frame_blocks : (back : ℕ) → Option (List ℕ) → List Block
+frame_blocks back None = []
+frame_blocks back (Some exponents) = blocks_from (stack_under back exponents) exponents
+
+-- the blocks of the calls that were entered and not left
+abbrev pub call_blocks : (layouts : List (List ℕ)) → List Entered → List Block
+call_blocks layouts [] = []
+call_blocks layouts (call ∷ calls) = frame_blocks call.back (slice_get layouts call.frame) ++ call_blocks layouts calls
 
 -- the blocks without the one that begins there
 abbrev pub without : ℕ → List Block → List Block

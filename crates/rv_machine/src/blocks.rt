@@ -1,14 +1,16 @@
 //! The blocks of a frame.
 ghost use Rattle.std.specs.Prelude.{◌≡◌, ◌≤◌};
+ghost use Rattle.std.specs.List.{AllByRecursion};
 ghost use Rattle.rv_image.specs.Rules.{total_size};
-ghost use Rattle.rv_machine.specs.Blocks.{all_made, all_ended, blocks_from, AreBlocks, AreExponents};
+ghost use Rattle.rv_machine.specs.Blocks.{all_made, all_ended, blocks_from, AreExponents};
+ghost use Rattle.size_table.specs.Blocks.{IsBlock};
 ghost use Rattle.rv_machine.specs.State.{with_memory};
 
 use crate::core_step::Core;
 
 /// Makes blocks without gaps from a base on, in order.
 pub(crate) fn make_all(core: &mut Core, base: u32, exponents: &[u8])
-    requires { AreBlocks (blocks_from base exponents.now) }
+    requires { AllByRecursion (IsBlock 4) (blocks_from base exponents.now) }
     ensures { core.new ≡ with_memory (all_made (blocks_from base exponents.now) core.old.memory) core.old }
 {
     let mut at = base;
@@ -20,7 +22,7 @@ pub(crate) fn make_all(core: &mut Core, base: u32, exponents: &[u8])
 
 /// Ends blocks that lie without gaps from a base on, the last one first.
 pub(crate) fn end_all(core: &mut Core, base: u32, exponents: &[u8])
-    requires { AreBlocks (blocks_from base exponents.now) }
+    requires { AllByRecursion (IsBlock 4) (blocks_from base exponents.now) }
     ensures { core.new ≡ with_memory (all_ended (blocks_from base exponents.now) core.old.memory) core.old }
 {
     if let [first, rest @ ..] = exponents {

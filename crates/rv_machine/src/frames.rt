@@ -2,7 +2,7 @@
 ghost use Rattle.std.specs.Prelude.{◌≡◌, ◌+◌, ◌<◌, ◌≤◌, ◌++◌, ◌∷◌, [], length, vec_len, vec_capacity, slice_get, IfOk, IfNone, Some};
 ghost use Rattle.rv_image.specs.Rules.{IsImage, total_size, Decline, AreFrames};
 ghost use Rattle.rv_machine.specs.Blocks.{AreExponents};
-ghost use Rattle.rv_machine.specs.Frames.{stack_under, AreLayouts};
+ghost use Rattle.rv_machine.specs.Frames.{stack_under};
 
 use crate::blocks::{end_all, make_all, total_size};
 use crate::core_step::Core;
@@ -45,16 +45,16 @@ pub struct Frames {
 }
 
 impl Model for Frames {
-    ghost use Rattle.std.specs.Prelude.{◌≤◌, vec_capacity, All, reverse};
-    ghost use Rattle.rv_machine.specs.declared.frames.Entered.{Entered as ACall};
-    ghost use Rattle.rv_machine.specs.Frames.{AreLayouts, AreStacked};
+    ghost use Rattle.std.specs.Prelude.{◌≤◌, vec_capacity};
+    ghost use Rattle.rv_image.specs.Rules.{AreFrames};
+    ghost use Rattle.rv_machine.specs.Frames.{AreCalls};
     ghost use Rattle.rv_machine.specs.State.{Frames as FramesState};
 
     ghost Value = { FramesState };
 
     ghost view = { λ f. record { layouts = f.layouts; entered = f.entered.items; stack = f.stack } };
 
-    ghost invariant = { λ f. AreLayouts f.layouts × (4096 ≤ vec_capacity f.entered) × (f.stack ≤ 16777216) × All (λ (call : ACall). call.back ≤ 16777216) f.entered.items × AreStacked f.layouts (reverse f.entered.items) f.stack };
+    ghost invariant = { λ f. AreFrames f.layouts × (4096 ≤ vec_capacity f.entered) × AreCalls f.layouts 16777216 f.entered.items f.stack };
 }
 
 // Room is there for a call more.
@@ -89,7 +89,7 @@ fn stack_under(stack: u32, exponents: &[u8]) -> u32
 // The exponents of a frame.
 fn layout(layouts: &List<List<u8>>, at: usize) -> &[u8]
     requires within { at < length layouts.now }
-    requires fit { AreLayouts layouts.now }
+    requires fit { AreFrames layouts.now }
     ensures value { slice_get layouts.now at ≡ Some result.now }
     ensures exponents { AreExponents result.now }
     ensures declines { Decline 20 result.now }

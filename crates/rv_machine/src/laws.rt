@@ -1,6 +1,5 @@
 //! The laws of the machine, for what stands on it.
-ghost use Rattle.rv_machine.specs.Laws.{EndingStays, StepTells, ToldGrows, FieldsFit, InstructionDone, WordReadBack, WordsStand, StepsAdd};
-ghost use Rattle.rv_machine.specs.Formed.{CoreStays};
+ghost use Rattle.rv_machine.specs.Laws.{EndingStays, StepTells, ToldGrows, FieldsFit, InstructionDone, WordReadBack, WordsStand, StepsAdd, CoreStays, FormStays, RunsAreFormed, LiveAreLaidOut, OnlyToldChange, TextStays, TextStands, TableFollows, RunsHaveTable};
 
 /// A machine that has ended stays as it is.
 pub fn ending_stays()
@@ -52,3 +51,63 @@ pub fn words_stand()
 pub fn steps_add()
     ensures { StepsAdd }
 {}
+
+/// An instruction, an environment call among them, keeps what holds of every machine of an image: its core's form, the
+/// calls entered one under the other, and that the blocks that live are those of the globals and of these calls.
+pub fn form_stays()
+    ensures { FormStays }
+{
+    rv_code::laws::reads_only();
+}
+
+/// So this holds after each instruction of every run of an image.
+pub fn runs_are_formed()
+    ensures { RunsAreFormed }
+{
+    rv_code::laws::reads_only();
+}
+
+/// The live blocks are aligned to their size and lie in their regions, and no two of them meet.
+pub fn live_are_laid_out()
+    ensures { LiveAreLaidOut }
+{}
+
+/// A byte of the memory stays unless an event tells that it was written. An environment call tells of blocks alone, so it
+/// writes to blocks that it makes and to the size table.
+pub fn only_told_change()
+    ensures { OnlyToldChange }
+{}
+
+/// The text's region stays as it was at the start.
+pub fn text_stays()
+    ensures { TextStays }
+{
+    rv_code::laws::reads_only();
+}
+
+/// The words of an image's text stand in memory from 0x1000 on, in every run.
+pub fn text_stands()
+    ensures { TextStands }
+{
+    rv_code::laws::reads_only();
+}
+
+/// The size table is that of the live blocks, before and after an instruction that does not itself write to it.
+pub fn table_follows()
+    ensures { TableFollows }
+{
+    rv_code::laws::reads_only();
+    size_table::laws::block_is_marked();
+    size_table::laws::marking_adds();
+    size_table::laws::marking_removes();
+}
+
+/// So it is in every run of a program that never writes to it.
+pub fn runs_have_table()
+    ensures { RunsHaveTable }
+{
+    rv_code::laws::reads_only();
+    size_table::laws::block_is_marked();
+    size_table::laws::marking_adds();
+    size_table::laws::marking_removes();
+}

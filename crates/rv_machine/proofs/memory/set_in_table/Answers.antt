@@ -1,5 +1,5 @@
 use Rattle.std.proofs.Common.{◌/◌, ◌^◌, arith}
-use Rattle.rv_machine.proofs.Stacks.{filled_part}
+use Rattle.rv_machine.proofs.Parts.{filled_part}
 use Rattle.rv_machine.proofs.memory.set_in_table.Goals as goal
 
 pub returns : goal.returns

@@ -1,0 +1,5 @@
+use Rattle.rv_machine.proofs.Forms.{step_formed}
+use Rattle.rv_machine.proofs.laws.form_stays.Goals as goal
+
+pub returns : goal.returns
+returns c = step_formed c.reads_only.ensures

@@ -1,0 +1,5 @@
+use Rattle.rv_machine.proofs.MemoryLaws.{only_told_change}
+use Rattle.rv_machine.proofs.laws.only_told_change.Goals as goal
+
+pub returns : goal.returns
+returns c = only_told_change

@@ -1,0 +1,10 @@
+use Rattle.rv_machine.proofs.MemoryLaws.{table_follows}
+use Rattle.rv_machine.proofs.laws.table_follows.Goals as goal
+
+pub returns : goal.returns
+returns c = table_follows (record {
+  reads = c.reads_only.ensures;
+  marked = c.block_is_marked.ensures;
+  adds = c.marking_adds.ensures;
+  removes = c.marking_removes.ensures;
+})
