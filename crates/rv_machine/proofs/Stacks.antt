@@ -1,5 +1,5 @@
 -- The blocks of frames that are entered, and the part of the memory that is the size table.
-use Rattle.std.proofs.Common.{◌≡◌, ℕ, zero, suc, ◌+◌, ◌-◌, ◌*◌, ◌/◌, ◌%◌, ◌^◌, ◌<◌, ◌≤◌, List, [], ◌∷◌, ◌++◌, length, take, drop, reverse, refl, sym, ap, subst, ◌∙◌, arith, append_assoc, lit≤}
+use Rattle.std.proofs.Common.{◌≡◌, ℕ, ◌+◌, ◌-◌, ◌*◌, ◌/◌, ◌%◌, ◌^◌, ◌<◌, ◌≤◌, List, [], ◌∷◌, ◌++◌, take, drop, reverse, refl, sym, ap, subst, ◌∙◌, arith, append_assoc, lit≤}
 use Rattle.std.specs.Prelude.{replicate, slice_get, Some, All}
 use Rattle.std.proofs.lemmas.List.Elements.{All-append, All-from_recursion}
 use Rattle.std.proofs.lemmas.List.{take-append-drop, take-take, drop-take, drop-drop, reverse-append}
@@ -81,18 +81,6 @@ layout_blocks layouts k stack es its all fs is = let same : es ≡ fs = cc in su
 pub stacked_then : (layouts : List (List ℕ)) (calls : List Entered) (call : Entered) (stack : ℕ) → AreStacked layouts (reverse calls) call.back
     → ((es : List ℕ) → slice_get layouts call.frame ≡ Some es → AreBlocks (blocks_from stack es)) → AreStacked layouts (reverse (calls ++ call ∷ [])) stack
 stacked_then layouts calls call stack earlier its = rw (reverse-append calls (call ∷ [])) (its, earlier)
-
-last_apart : (n : ℕ) (calls : List Entered) (call : Entered) → length calls ≡ suc n → slice_get calls n ≡ Some call → take n calls ++ call ∷ [] ≡ calls
-last_apart n [] call l e = absurd (omega (arith, l))
-last_apart zero (x ∷ []) call l e = let same : x ≡ call = cc in ap (λ (y : Entered). y ∷ []) (sym same)
-last_apart zero (x ∷ y ∷ calls) call l e = absurd (omega (arith, l))
-last_apart (suc n) (x ∷ calls) call l e = ap (λ ys. x ∷ ys) (last_apart n calls call (omega (arith, l)) e)
-
-pub stacked_before : (layouts : List (List ℕ)) (calls : List Entered) (n stack : ℕ) (call : Entered) → length calls ≡ suc n → slice_get calls n ≡ Some call → AreStacked layouts (reverse calls) stack
-    → ((es : List ℕ) → slice_get layouts call.frame ≡ Some es → AreBlocks (blocks_from stack es)) × AreStacked layouts (reverse (take n calls)) call.back
-stacked_before layouts calls n stack call l last all =
-    let turned : reverse calls ≡ call ∷ reverse (take n calls) = sym (ap reverse (last_apart n calls call l last)) ∙ reverse-append (take n calls) (call ∷ []) in
-    subst (λ xs. AreStacked layouts xs stack) turned all
 
 pub backs_then : (calls : List Entered) (call : Entered) → All (λ (c : Entered). c.back ≤ 16777216) calls → call.back ≤ 16777216 → All (λ (c : Entered). c.back ≤ 16777216) (calls ++ call ∷ [])
 backs_then calls call all its = All-append (λ (c : Entered). c.back ≤ 16777216) calls (call ∷ []) all (All-from_recursion (λ (c : Entered). c.back ≤ 16777216) (call ∷ []) (its, tt))
