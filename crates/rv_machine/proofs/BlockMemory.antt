@@ -1,16 +1,17 @@
 -- The memory where blocks are made and end.
 use Rattle.std.proofs.Common.{◌≡◌, ℕ, ◌+◌, ◌/◌, ◌^◌, ◌<◌, ◌≤◌, ◌⊎◌, List, [], ◌∷◌, ◌++◌, length, get_or, take, drop, refl, ap, subst, ◌∙◌, inl, inr, arith, lit<}
 use Rattle.std.specs.Prelude.{All, replicate, map, reverse}
+use Rattle.std.proofs.lemmas.Bool.{cases_lt}
 use Rattle.std.proofs.lemmas.List.{places, map-append, reverse-append}
 use Rattle.std.proofs.lemmas.List.Elements.{All-append, All-take, All-drop, All-replicate, All-head, All-tail}
 use Rattle.bb_watch.specs.declared.event.Event.{Event}
 use Rattle.rv_machine.specs.Blocks.{tabled, made, ended, all_made, all_ended}
-use Rattle.rv_machine.specs.Changes.{IsOfBlock, IsOfEntry, NoneChanges}
+use Rattle.rv_machine.specs.Changes.{IsOfBlock, IsOfEntry, NoneChanges, IsMadeIn}
 use Rattle.rv_machine.specs.Environment.{made_event, ended_event}
 use Rattle.rv_machine.specs.Formed.{IsByte}
 use Rattle.rv_machine.specs.State.{memory_size}
 use Rattle.rv_machine.proofs.Changes.{outside}
-use Rattle.size_table.specs.Blocks.{Block, IsBlock}
+use Rattle.size_table.specs.Blocks.{Block, IsBlock, end_of}
 use Rattle.size_table.specs.Table.{filled}
 
 -- ---- Parts that are filled
@@ -130,3 +131,51 @@ all_ended_other (b ∷ bs) m at h i n =
     let fit = All-tail (IsBlock 4) b bs h in
     ended_other b (all_ended bs m) at (All-head (IsBlock 4) b bs h) (all_ended_memory bs m fit i) (none_last others (ended_event b ∷ []) at parts).0
     ∙ all_ended_other bs m at fit i (none_first others (ended_event b ∷ []) at parts)
+
+-- ---- What was made is zero
+
+filled_within : (m : List ℕ) (at count byte i : ℕ) → at + count ≤ length m → at ≤ i → i < at + count → get_or (filled m at count byte) i 0 ≡ byte
+unfolding filled
+filled_within m at count byte i le from to = search (arith, places)
+
+entry_below : (b : Block) (at : ℕ) → IsBlock 4 b → 4194304 ≤ at → IsOfEntry b at → ⊥
+entry_below b at h high e = omega (arith, h.within, high, e.1)
+
+in_block : (b : Block) (at : ℕ) → IsOfBlock b at ⊎ (IsOfBlock b at → ⊥)
+in_block b at = elim (cases_lt at b.base) [
+  | inl below ↦ inr (λ o. omega (arith, below, o.0))
+  | inr from ↦ elim (cases_lt at (end_of b)) [
+    | inl to ↦ inl (from, to)
+    | inr past ↦ inr (λ o. omega (arith, past, o.1))
+  ]
+]
+
+neither : (b : Block) (at : ℕ) → IsBlock 4 b → 4194304 ≤ at → (IsOfBlock b at → ⊥) → IsOfBlock b at ⊎ IsOfEntry b at → ⊥
+neither b at h high n (inl o) = n o
+neither b at h high n (inr e) = entry_below b at h high e
+
+made_zero : (b : Block) (m : List ℕ) (at : ℕ) → IsBlock 4 b → IsMemory m → 4194304 ≤ at → IsOfBlock b at → get_or (made b m) at 0 ≡ 0
+unfolding made
+made_zero b m at h i high o =
+    let beside : IsOfEntry b at → ⊥ = λ e. entry_below b at h high e in
+    tabled_other b.exponent b (filled m b.base (2 ^ b.exponent) 0) at h (zeroed_memory b m h i).size beside
+    ∙ filled_within m b.base (2 ^ b.exponent) 0 at (block_fits b m h i.size) o.0 o.1
+
+-- a byte that is zero, or is in a block that is made
+all_made_stay_zero : (bs : List Block) (m : List ℕ) (at : ℕ) → All (IsBlock 4) bs → IsMemory m → 4194304 ≤ at → get_or m at 0 ≡ 0 → get_or (all_made bs m) at 0 ≡ 0
+all_made_stay_zero [] m at h i high z = z
+all_made_stay_zero (b ∷ bs) m at h i high z =
+    let block = All-head (IsBlock 4) b bs h in
+    all_made_stay_zero bs (made b m) at (All-tail (IsBlock 4) b bs h) (made_memory b m block i) high (elim (in_block b at) [
+      | inl o ↦ made_zero b m at block i high o
+      | inr n ↦ made_other b m at block i (λ p. neither b at block high n p) ∙ z
+    ])
+
+pub all_made_zero : (bs : List Block) (m : List ℕ) (at : ℕ) → All (IsBlock 4) bs → IsMemory m → 4194304 ≤ at → IsMadeIn (map made_event bs) at → get_or (all_made bs m) at 0 ≡ 0
+all_made_zero [] m at h i high made = absurd made
+all_made_zero (b ∷ bs) m at h i high (inl o) =
+    let block = All-head (IsBlock 4) b bs h in
+    all_made_stay_zero bs (made b m) at (All-tail (IsBlock 4) b bs h) (made_memory b m block i) high (made_zero b m at block i high o)
+all_made_zero (b ∷ bs) m at h i high (inr o) =
+    let block = All-head (IsBlock 4) b bs h in
+    all_made_zero bs (made b m) at (All-tail (IsBlock 4) b bs h) (made_memory b m block i) high o

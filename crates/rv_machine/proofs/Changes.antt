@@ -11,12 +11,17 @@ use Rattle.bb_watch.specs.declared.event.Event.{Event}
 use Rattle.bb_watch.specs.declared.event.Event.TheVariants.{Move, Access, Call, Return, Line}
 use Rattle.rv_code.specs.declared.instr.Instr.{Instr}
 use Rattle.rv_code.specs.declared.instr.Instr.TheVariants.{Lui, Auipc, Jal, Jalr, Beq, Bne, Blt, Bge, Bltu, Bgeu, Lb, Lh, Lw, Lbu, Lhu, Sb, Sh, Sw, Addi, Slti, Sltiu, Xori, Ori, Andi, Slli, Srli, Srai, Add, Sub, Sll, Slt, Sltu, Xor, Srl, Sra, Or, And, Mul, Mulh, Mulhsu, Mulhu, Div, Divu, Rem, Remu, Fence, Ecall, Ebreak}
-use Rattle.rv_machine.specs.Changes.{NoneChanges, AreOffTable}
+use Rattle.rv_machine.specs.Changes.{NoneChanges, IsMadeIn, AreOffTable}
 use Rattle.rv_machine.specs.Instruction.{Act, Goes, Traps, Asks, access_trap, unless_trap, stores, jumps, branches, address, even, effect, effect_of, event_of, event_if, instruction_at, core_step, core_events}
 use Rattle.rv_machine.specs.Live.{live_of}
 use Rattle.rv_machine.specs.Memory.{written_at}
 use Rattle.rv_machine.specs.State.{Core, register_of, set_register, next, with_memory}
 use Rattle.size_table.specs.Blocks.{Block}
+
+-- the events tell of no block that is made or ends
+pub record TellsNoBlock (events : List Event) : Type 0 where
+  pub live : (blocks : List Block) → live_of blocks events ≡ blocks
+  pub made : (at : ℕ) → IsMadeIn events at → ⊥
 
 -- A byte changes only where the events say so, not in the text, and not in the size table if the events are off it; and
 -- the events tell of no blocks.
@@ -24,7 +29,7 @@ pub record Keeps (events : List Event) (old new : List ℕ) : Type 0 where
   pub told : (at : ℕ) → NoneChanges events at → get_or new at 0 ≡ get_or old at 0
   pub text : (at : ℕ) → at < 2097152 → get_or new at 0 ≡ get_or old at 0
   pub table : AreOffTable events → (at : ℕ) → 2097152 ≤ at → at < 4194304 → get_or new at 0 ≡ get_or old at 0
-  pub live : (blocks : List Block) → live_of blocks events ≡ blocks
+  pub blocks : TellsNoBlock events
 
 -- what is so of the core that an act leads to
 abbrev IfKept : List Event → Core → Act → Type 0
@@ -32,43 +37,33 @@ IfKept events c (Goes d) = Keeps events c.memory d.memory
 IfKept events c (Traps kind) = Unit {0}
 IfKept events c Asks = Unit {0}
 
-TellsNoBlock : List Event → Type 0
-TellsNoBlock events = (blocks : List Block) → live_of blocks events ≡ blocks
-
 -- ---- Instructions that do not write
 
 silent : (events : List Event) (m : List ℕ) → TellsNoBlock events → Keeps events m m
-unfolding TellsNoBlock
-silent events m live = record { told = λ at h. refl; text = λ at h. refl; table = λ off at low high. refl; live = live }
+silent events m blocks = record { told = λ at h. refl; text = λ at h. refl; table = λ off at low high. refl; blocks = blocks }
 
 -- an event that is told on a condition
 none : TellsNoBlock []
-unfolding TellsNoBlock
-none = λ blocks. refl
+none = record { live = λ blocks. refl; made = λ at m. m }
 
 told_if : (b : Bool) (events others : List Event) → TellsNoBlock events → TellsNoBlock others → TellsNoBlock (cond b events others)
 told_if true events others p q = p
 told_if false events others p q = q
 
 move : (pc from to : ℕ) → TellsNoBlock (Move pc from to ∷ [])
-unfolding TellsNoBlock
-move pc from to = λ blocks. refl
+move pc from to = record { live = λ blocks. refl; made = λ at m. m }
 
 line : (n : ℕ) → TellsNoBlock (Line n ∷ [])
-unfolding TellsNoBlock
-line n = λ blocks. refl
+line n = record { live = λ blocks. refl; made = λ at m. m }
 
 call : (pc to : ℕ) → TellsNoBlock (Call pc to ∷ [])
-unfolding TellsNoBlock
-call pc to = λ blocks. refl
+call pc to = record { live = λ blocks. refl; made = λ at m. m }
 
 return : (pc to : ℕ) → TellsNoBlock (Return pc to ∷ [])
-unfolding TellsNoBlock
-return pc to = λ blocks. refl
+return pc to = record { live = λ blocks. refl; made = λ at m. m }
 
 access : (pc at size : ℕ) (write : Bool) (base : ℕ) → TellsNoBlock (Access pc at size write base ∷ [])
-unfolding TellsNoBlock
-access pc at size write base = λ blocks. refl
+access pc at size write base = record { live = λ blocks. refl; made = λ at m. m }
 
 kept_unless : (events : List Event) (c d : Core) (trap : Option TrapKind) → Keeps events c.memory d.memory → IfKept events c (unless_trap trap d)
 kept_unless events c d None k = k
@@ -132,7 +127,7 @@ kept_store pc at size base bs c long = by (access_trap at size) refl
           told = λ i h. written_other c.memory at bs i (outside at (at + length bs) i (λ p. h.0 (p.0, omega (arith, p.1, long))));
           text = λ i l. written_other c.memory at bs i (inl (omega (arith, high, l)));
           table = λ off i low above. written_other c.memory at bs i (beside at (at + length bs) i low above (off_store at size bs long off.0));
-          live = λ blocks. refl;
+          blocks = access pc at size true base;
         }
     by (Some kind) e = tt
 

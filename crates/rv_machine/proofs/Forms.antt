@@ -266,7 +266,7 @@ goes_formed only image w core e f =
       live =
           ap (live_of (global_blocks image)) (events_append w.told (map Happens events) ∙ ap (λ (l : List Event). events_of w.told ++ l) (events_happen events))
           ∙ live_append (global_blocks image) (events_of w.told) events
-          ∙ keeps.live (live_in image w)
+          ∙ keeps.blocks.live (live_in image w)
           ∙ f.live;
     }
 

@@ -19,3 +19,6 @@ pub mod Starts
 pub mod Cases
 pub mod Forms
 pub mod MemoryLaws
+pub mod MadeLaws
+pub mod TextLaws
+pub mod TableLaws

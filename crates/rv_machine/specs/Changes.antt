@@ -25,6 +25,12 @@ abbrev pub NoneChanges : List Event → ℕ → Type 0
 NoneChanges [] at = Unit {0}
 NoneChanges (event ∷ events) at = (Changes event at → ⊥) × NoneChanges events at
 
+-- one of the events tells that a block was made that has the byte there
+abbrev pub IsMadeIn : List Event → ℕ → Type 0
+IsMadeIn [] at = ⊥
+IsMadeIn (Made base exponent ∷ events) at = IsOfBlock (block_at base exponent) at ⊎ IsMadeIn events at
+IsMadeIn (event ∷ events) at = IsMadeIn events at
+
 -- the program itself does not write to the size table
 abbrev pub IsOffTable : Event → Type 0
 IsOffTable (Access pc from size true base) = (from + size ≤ 2097152) ⊎ (4194304 ≤ from)

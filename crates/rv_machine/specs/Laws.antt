@@ -1,12 +1,12 @@
 -- The laws of the machine.
-use Rattle.std.specs.Prelude.{◌≡◌, ◌==◌, ℕ, ◌+◌, ◌*◌, ◌%◌, ◌≤◌, ◌<◌, ◌^◌, List, [], ◌∷◌, ◌++◌, map, All, Option, Some, None, IsSome, if◌then◌else◌, length, slice_index}
+use Rattle.std.specs.Prelude.{◌≡◌, ◌==◌, ◌⊎◌, ℕ, ◌+◌, ◌*◌, ◌%◌, ◌≤◌, ◌<◌, ◌^◌, List, [], ◌∷◌, ◌++◌, map, All, Option, Some, None, IsSome, if◌then◌else◌, length, slice_index}
 use Rattle.std.specs.Int.{to_le_bytes, w32}
 use Rattle.rv_code.specs.Code.{Fits, word_of}
 use Rattle.rv_code.specs.declared.instr.Instr.{Instr}
 use Rattle.rv_image.specs.declared.image.Image.{Image}
 use Rattle.rv_image.specs.Rules.{IsImage}
 use Rattle.rv_machine.specs.declared.stop.Halt.{Halt}
-use Rattle.rv_machine.specs.Changes.{NoneChanges, AreOffTable}
+use Rattle.rv_machine.specs.Changes.{NoneChanges, IsMadeIn, AreOffTable}
 use Rattle.rv_machine.specs.Environment.{Tell, Output, Happens, World, enter_events, leave_events, events_of}
 use Rattle.rv_machine.specs.Formed.{IsWord, IsByte, IsCore, IsFormed, AreLaidOut, live_in}
 use Rattle.rv_machine.specs.Instruction.{Act, Goes, Traps, Asks, core_step, core_events, instruction_at, effect, event_of}
@@ -62,6 +62,10 @@ InstructionDone = (c : Core) (i : Instr) → 4096 ≤ c.pc → c.pc < 2097152 �
 abbrev pub WordReadBack : Type 0
 WordReadBack = (memory : List ℕ) (at word : ℕ) → at + 4 ≤ length memory → word < 2 ^ 32 → word_at (written_at memory at (to_le_bytes w32 word)) at ≡ word
 
+-- bytes beside those that were written stay
+abbrev pub OthersStay : Type 0
+OthersStay = (memory : List ℕ) (from : ℕ) (bytes : List ℕ) (at : ℕ) → (at < from) ⊎ (from + length bytes ≤ at) → slice_index (written_at memory from bytes) at ≡ slice_index memory at
+
 -- words that were written stand in memory
 abbrev pub WordsStand : Type 0
 WordsStand = (memory : List ℕ) (at : ℕ) (words : List ℕ) → All IsWord words → at + 4 * length words ≤ length memory → Stand (written_at memory at (bytes_of_words words)) at words
@@ -90,6 +94,10 @@ LiveAreLaidOut = (image : Image) (w : World) → IsImage image → IsFormed imag
 -- write to blocks that they make and to the size table.
 abbrev pub OnlyToldChange : Type 0
 OnlyToldChange = (image : Image) (w : World) (at : ℕ) → IsImage image → IsFormed image w → NoneChanges (events_of (tells_of w.machine)) at → slice_index (step w).machine.core.memory at ≡ slice_index w.machine.core.memory at
+
+-- the bytes of a block that was made are zero
+abbrev pub MadeIsZero : Type 0
+MadeIsZero = (image : Image) (w : World) (at : ℕ) → IsImage image → IsFormed image w → IsMadeIn (events_of (tells_of w.machine)) at → slice_index (step w).machine.core.memory at ≡ 0
 
 -- the text's region stays as it was at the start
 abbrev pub TextStays : Type 0

@@ -1,5 +1,5 @@
 //! The laws of the machine, for what stands on it.
-ghost use Rattle.rv_machine.specs.Laws.{EndingStays, StepTells, ToldGrows, FieldsFit, InstructionDone, WordReadBack, WordsStand, StepsAdd, CoreStays, FormStays, RunsAreFormed, LiveAreLaidOut, OnlyToldChange, TextStays, TextStands, TableFollows, RunsHaveTable};
+ghost use Rattle.rv_machine.specs.Laws.{EndingStays, StepTells, ToldGrows, FieldsFit, InstructionDone, WordReadBack, OthersStay, WordsStand, StepsAdd, CoreStays, FormStays, RunsAreFormed, LiveAreLaidOut, OnlyToldChange, MadeIsZero, TextStays, TextStands, TableFollows, RunsHaveTable};
 
 /// A machine that has ended stays as it is.
 pub fn ending_stays()
@@ -42,6 +42,11 @@ pub fn core_stays()
     rv_code::laws::reads_only();
 }
 
+/// Bytes beside those that were written stay.
+pub fn others_stay()
+    ensures { OthersStay }
+{}
+
 /// Words that were written stand in memory.
 pub fn words_stand()
     ensures { WordsStand }
@@ -76,6 +81,11 @@ pub fn live_are_laid_out()
 /// writes to blocks that it makes and to the size table.
 pub fn only_told_change()
     ensures { OnlyToldChange }
+{}
+
+/// The bytes of a block that was made are zero.
+pub fn made_is_zero()
+    ensures { MadeIsZero }
 {}
 
 /// The text's region stays as it was at the start.

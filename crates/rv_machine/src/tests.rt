@@ -239,7 +239,11 @@ fn enters_and_leaves(rt: HostRuntime) -> Result<(), Fail> {
         0x0080_0893, // addi x17, x0, 8
         0x0000_0513, // addi x10, x0, 0
         0x0000_0073, // ecall
+        0x0070_0893, // addi x17, x0, 7
         0x0000_0513, // addi x10, x0, 0
+        0x0000_0073, // ecall
+        0x0080_0893, // addi x17, x0, 8
+        0x0020_0513, // addi x10, x0, 2
         0x0000_0073, // ecall
     ];
     let mut machine = Machine::new(alloc, &image(alloc, &words)?)?;
@@ -258,11 +262,13 @@ fn enters_and_leaves(rt: HostRuntime) -> Result<(), Fail> {
     assert_eq!(rt; machine.byte(0xFF_FFFF), 255);
     assert_eq!(rt; machine.byte(0x2F_FFFE), 0);
     assert_eq!(rt; machine.byte(0x2F_FFFF), 0);
-    let left = Stop::Trapped {
+    // The last call is of frame 0, and not of frame 2.
+    let wrong_frame = Stop::Trapped {
         kind: TrapKind::Call,
     };
-    assert_eq!(rt; machine.run(9, &mut input, &mut output), left);
-    assert_eq!(rt; machine.pc(), 0x1030);
+    assert_eq!(rt; machine.run(9, &mut input, &mut output), wrong_frame);
+    assert_eq!(rt; machine.pc(), 0x1040);
+    assert_eq!(rt; machine.byte(0x2F_FFFE), 5);
     Ok(())
 }
 

@@ -1,4 +1,4 @@
-use Rattle.rv_machine.proofs.MemoryLaws.{steps_table}
+use Rattle.rv_machine.proofs.TableLaws.{steps_table}
 use Rattle.rv_machine.proofs.Starts.{start_formed, start_has_table}
 use Rattle.rv_machine.proofs.TableMemory.{LawsBelow}
 use Rattle.rv_machine.proofs.laws.runs_have_table.Goals as goal

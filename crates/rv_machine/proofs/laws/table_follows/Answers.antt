@@ -1,4 +1,4 @@
-use Rattle.rv_machine.proofs.MemoryLaws.{table_follows}
+use Rattle.rv_machine.proofs.TableLaws.{table_follows}
 use Rattle.rv_machine.proofs.laws.table_follows.Goals as goal
 
 pub returns : goal.returns

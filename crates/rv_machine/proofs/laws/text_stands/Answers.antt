@@ -1,5 +1,5 @@
 use Rattle.std.proofs.Common.{◌∙◌, arith}
-use Rattle.rv_machine.proofs.MemoryLaws.{steps_text}
+use Rattle.rv_machine.proofs.TextLaws.{steps_text}
 use Rattle.rv_machine.proofs.Starts.{start_formed, start_byte, start_stands, stand_same}
 use Rattle.rv_machine.specs.Start.{start_memory}
 use Rattle.rv_machine.proofs.laws.text_stands.Goals as goal

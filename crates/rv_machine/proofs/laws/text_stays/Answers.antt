@@ -1,5 +1,5 @@
 use Rattle.std.proofs.Common.{◌∙◌}
-use Rattle.rv_machine.proofs.MemoryLaws.{steps_text}
+use Rattle.rv_machine.proofs.TextLaws.{steps_text}
 use Rattle.rv_machine.proofs.Starts.{start_formed, start_byte}
 use Rattle.rv_machine.proofs.laws.text_stays.Goals as goal
 
