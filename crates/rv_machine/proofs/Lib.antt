@@ -19,3 +19,4 @@ pub mod Starts
 pub mod Cases
 pub mod Forms
 pub mod MemoryLaws
+pub mod Examples

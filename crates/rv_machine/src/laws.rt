@@ -1,4 +1,5 @@
 //! The laws of the machine, for what stands on it.
+ghost use Rattle.rv_machine.specs.Examples.{ExampleIsSafe, ExampleExits, ClausesRefuse, UnsafeExamples};
 ghost use Rattle.rv_machine.specs.Laws.{EndingStays, StepTells, ToldGrows, FieldsFit, InstructionDone, WordReadBack, WordsStand, StepsAdd, CoreStays, FormStays, RunsAreFormed, LiveAreLaidOut, OnlyToldChange, TextStays, TextStands, TableFollows, RunsHaveTable};
 
 /// A machine that has ended stays as it is.
@@ -110,4 +111,36 @@ pub fn runs_have_table()
     size_table::laws::block_is_marked();
     size_table::laws::marking_adds();
     size_table::laws::marking_removes();
+}
+
+/// A run can be safe: that of an image that only exits is, however long.
+pub fn example_is_safe()
+    ensures { ExampleIsSafe }
+{
+    rv_code::laws::reads_back();
+    rv_code::laws::reads_only();
+    size_table::laws::block_is_marked();
+    size_table::laws::marking_adds();
+    size_table::laws::marking_removes();
+}
+
+/// That image exits with status 42 after three instructions.
+pub fn example_exits()
+    ensures { ExampleExits }
+{
+    rv_code::laws::reads_back();
+}
+
+/// Each clause of safety refuses a run that breaks what the clause is for.
+pub fn clauses_refuse()
+    ensures { ClausesRefuse }
+{
+    rv_code::laws::reads_back();
+}
+
+/// So each of these runs is not safe.
+pub fn unsafe_examples()
+    ensures { UnsafeExamples }
+{
+    rv_code::laws::reads_back();
 }

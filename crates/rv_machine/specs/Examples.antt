@@ -1,0 +1,71 @@
+-- Small images, one whose run is safe, and others of which each breaks one clause of safety.
+use Rattle.std.specs.Prelude.{◌≡◌, ℕ, List, [], ◌∷◌, Some, IsSome}
+use Rattle.rv_image.specs.declared.image.Image.{Image}
+use Rattle.rv_machine.specs.declared.stop.Halt.TheVariants.{Exited}
+use Rattle.rv_machine.specs.Environment.{events_of}
+use Rattle.rv_machine.specs.Live.{live_of}
+use Rattle.rv_machine.specs.Machine.{machine_after}
+use Rattle.rv_machine.specs.Safety.{Each, IsMoveSafe, IsAccessSafe, IsControlSafe, IsSafeEnding, SafeRun, open_after, table_in}
+use Rattle.size_table.specs.Table.{IsTableOf}
+
+-- ---- Images
+
+-- an image of these words, without global objects and frames
+abbrev pub image_with : (words : List ℕ) → Image
+image_with words = record { version = 1; entry = 4096; globals = []; frames = []; initial = []; text = words }
+
+-- addi x10, x0, 42; addi x17, x0, 1; ecall: exits with status 42
+abbrev pub forty_two : Image
+forty_two = image_with (0x02A0_0513 ∷ 0x0010_0893 ∷ 0x0000_0073 ∷ [])
+
+-- add x0, x5, x6: moves the word 0, which no block owns
+abbrev pub moves_unowned : Image
+moves_unowned = image_with (0x0062_8033 ∷ [])
+
+-- lui x5, 0xC00; lw x6, 0(x5): reads a word of the data stack, where no block is live
+abbrev pub reads_unowned : Image
+reads_unowned = image_with (0x00C0_02B7 ∷ 0x0002_A303 ∷ [])
+
+-- sw x0, 0(x31): writes to the size table
+abbrev pub writes_table : Image
+writes_table = image_with (0x000F_A023 ∷ [])
+
+-- addi x6, x0, 1; sb x6, 0(x31): changes the size table, where no block is
+abbrev pub changes_table : Image
+changes_table = image_with (0x0010_0313 ∷ 0x006F_8023 ∷ [])
+
+-- jalr x0, 0(x1): returns, where no call is open
+abbrev pub returns_nowhere : Image
+returns_nowhere = image_with (0x0000_8067 ∷ [])
+
+-- ebreak: traps
+abbrev pub breaks : Image
+breaks = image_with (0x0010_0073 ∷ [])
+
+-- ---- Laws
+
+-- a run can be safe, however long
+abbrev pub ExampleIsSafe : Type 0
+ExampleIsSafe = (input : List ℕ) (n : ℕ) → SafeRun 4 forty_two input n
+
+-- it exits after three instructions, and tells nothing
+abbrev pub ExampleExits : Type 0
+ExampleExits = (input : List ℕ) → ((machine_after forty_two input 3).machine.ending ≡ Some (Exited 42)) × ((machine_after forty_two input 3).told ≡ [])
+
+-- each clause of safety refuses the image that is to break it
+pub record ClausesRefuse : Type 0 where
+  pub moves : (input : List ℕ) → Each (IsMoveSafe 4) [] [] (events_of (machine_after moves_unowned input 1).told) → ⊥
+  pub accesses : (input : List ℕ) → Each (IsAccessSafe 4) [] [] (events_of (machine_after reads_unowned input 2).told) → ⊥
+  pub control : (input : List ℕ) → Each IsControlSafe [] [] (events_of (machine_after writes_table input 1).told) → ⊥
+  pub table : (input : List ℕ) → IsTableOf 4 (live_of [] (events_of (machine_after changes_table input 2).told)) (table_in (machine_after changes_table input 2).machine.core.memory) → ⊥
+  pub returns : (input : List ℕ) → IsSome (open_after [] (events_of (machine_after returns_nowhere input 1).told)) → ⊥
+  pub traps : (input : List ℕ) → IsSafeEnding (machine_after breaks input 1).machine.ending → ⊥
+
+-- so no run of such an image is safe
+pub record UnsafeExamples : Type 0 where
+  pub moves : (input : List ℕ) → SafeRun 4 moves_unowned input 1 → ⊥
+  pub accesses : (input : List ℕ) → SafeRun 4 reads_unowned input 2 → ⊥
+  pub control : (input : List ℕ) → SafeRun 4 writes_table input 1 → ⊥
+  pub table : (input : List ℕ) → SafeRun 4 changes_table input 2 → ⊥
+  pub returns : (input : List ℕ) → SafeRun 4 returns_nowhere input 1 → ⊥
+  pub traps : (input : List ℕ) → SafeRun 4 breaks input 1 → ⊥
