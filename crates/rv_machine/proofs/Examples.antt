@@ -32,14 +32,14 @@ use Rattle.size_table.specs.Table.{IsTableOf}
 -- ---- One instruction
 
 -- the machine is at this instruction
-record IsAt (i : Instr) (w : World) : Type 0 where
-  running : w.machine.ending ≡ None
-  low : 4096 ≤ w.machine.core.pc
-  high : w.machine.core.pc < 2097152
-  fits : Fits i
-  word : word_at w.machine.core.memory w.machine.core.pc ≡ word_of i
+pub record IsAt (i : Instr) (w : World) : Type 0 where
+  pub running : w.machine.ending ≡ None
+  pub low : 4096 ≤ w.machine.core.pc
+  pub high : w.machine.core.pc < 2097152
+  pub fits : Fits i
+  pub word : word_at w.machine.core.memory w.machine.core.pc ≡ word_of i
 
-went : ReadsBack → (i : Instr) (d : Core) (w : World) → IsAt i w → effect i w.machine.core ≡ Goes d
+pub went : ReadsBack → (i : Instr) (d : Core) (w : World) → IsAt i w → effect i w.machine.core ≡ Goes d
     → step w ≡ record { machine = with_core d w.machine; left = w.left; told = w.told ++ map Happens (event_of i w.machine.core) }
 went back i d w at e =
     let c = w.machine.core in
@@ -49,13 +49,13 @@ went back i d w at e =
 trapped : ReadsBack → (i : Instr) (kind : TrapKind) (w : World) → IsAt i w → effect i w.machine.core ≡ Traps kind → step w ≡ with_machine (halted (Trapped kind)) w
 trapped back i kind w at e = step_acts w (Traps kind) at.running (does_instr back w.machine.core i at.low at.high at.fits at.word ∙ e)
 
-asked : ReadsBack → (w : World) → IsAt Ecall w → step w ≡ calls w
+pub asked : ReadsBack → (w : World) → IsAt Ecall w → step w ≡ calls w
 asked back w at = step_acts w Asks at.running (does_instr back w.machine.core Ecall at.low at.high at.fits at.word)
 
 -- ---- The first machine
 
 -- a machine without frames, that has not ended
-abbrev standing : (pc : ℕ) → (registers memory input : List ℕ) → List Tell → World
+abbrev pub standing : (pc : ℕ) → (registers memory input : List ℕ) → List Tell → World
 standing pc registers memory input told = record {
   machine = record { core = record { pc = pc; registers = registers; memory = memory }; frames = start_frames []; ending = None };
   left = input;

@@ -19,4 +19,6 @@ pub mod Starts
 pub mod Cases
 pub mod Forms
 pub mod MemoryLaws
+pub mod SafeRuns
 pub mod Examples
+pub mod UsedBlock

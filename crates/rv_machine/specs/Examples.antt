@@ -1,11 +1,15 @@
 -- Small images, one whose run is safe, and others of which each breaks one clause of safety.
-use Rattle.std.specs.Prelude.{◌≡◌, ℕ, List, [], ◌∷◌, Some, IsSome}
+use Rattle.std.specs.Prelude.{◌≡◌, ℕ, true, false, List, [], ◌∷◌, All, Some, IsSome}
+use Rattle.bb_watch.specs.declared.event.Event.TheVariants.{Move, Access, Call, Return}
 use Rattle.rv_image.specs.declared.image.Image.{Image}
+use Rattle.rv_image.specs.Rules.{IsImage}
 use Rattle.rv_machine.specs.declared.stop.Halt.TheVariants.{Exited}
-use Rattle.rv_machine.specs.Environment.{events_of}
-use Rattle.rv_machine.specs.Live.{live_of}
+use Rattle.rv_machine.specs.Changes.{AreOffTable}
+use Rattle.rv_machine.specs.Environment.{World, events_of}
+use Rattle.rv_machine.specs.Formed.{IsByte}
+use Rattle.rv_machine.specs.Live.{global_blocks, live_of}
 use Rattle.rv_machine.specs.Machine.{machine_after}
-use Rattle.rv_machine.specs.Safety.{Each, IsMoveSafe, IsAccessSafe, IsControlSafe, IsSafeEnding, SafeRun, open_after, table_in}
+use Rattle.rv_machine.specs.Safety.{Each, IsMoveSafe, IsAccessSafe, IsControlSafe, IsSafeEnding, IsSafe, SafeRun, open_after, table_in}
 use Rattle.size_table.specs.Table.{IsTableOf}
 
 -- ---- Images
@@ -17,6 +21,25 @@ image_with words = record { version = 1; entry = 4096; globals = []; frames = []
 -- addi x10, x0, 42; addi x17, x0, 1; ecall: exits with status 42
 abbrev pub forty_two : Image
 forty_two = image_with (0x02A0_0513 ∷ 0x0010_0893 ∷ 0x0000_0073 ∷ [])
+
+-- An image with a block of 16 bytes, that of a global object. It moves a pointer within the block, writes to the block,
+-- calls a function and exits. The function stores its return address on the control stack, reads a byte of the size
+-- table and returns.
+abbrev pub uses_block : Image
+uses_block = record {
+  version = 1;
+  entry = 4096;
+  globals = 4 ∷ [];
+  frames = [];
+  initial = [];
+  text =
+    -- lui x5, 0xA00; addi x6, x5, 4; add x0, x5, x6; sw x5, 0(x6)
+    0x00A0_02B7 ∷ 0x0042_8313 ∷ 0x0062_8033 ∷ 0x0053_2023
+    -- jal x1, 8; ecall
+    ∷ 0x0080_00EF ∷ 0x0000_0073
+    -- sw x1, -4(x2); lbu x7, 0(x31); addi x17, x0, 1; jalr x0, 0(x1)
+    ∷ 0xFE11_2E23 ∷ 0x000F_C383 ∷ 0x0010_0893 ∷ 0x0000_8067 ∷ [];
+}
 
 -- add x0, x5, x6: moves the word 0, which no block owns
 abbrev pub moves_unowned : Image
@@ -51,6 +74,22 @@ ExampleIsSafe = (input : List ℕ) (n : ℕ) → SafeRun 4 forty_two input n
 -- it exits after three instructions, and tells nothing
 abbrev pub ExampleExits : Type 0
 ExampleExits = (input : List ℕ) → ((machine_after forty_two input 3).machine.ending ≡ Some (Exited 42)) × ((machine_after forty_two input 3).told ≡ [])
+
+-- So can a run that tells things of each kind but for blocks that are made and ended.
+abbrev pub BlockIsUsedSafely : Type 0
+BlockIsUsedSafely = (input : List ℕ) (n : ℕ) → All IsByte input → SafeRun 4 uses_block input n
+
+-- what it tells in its 10 instructions, with which it exits
+pub record UsesBlock (w : World) : Type 0 where
+  pub events : events_of w.told ≡ Move 4104 10485760 10485764 ∷ Access 4108 10485764 4 true 6 ∷ Call 4112 4120 ∷ Access 4120 10485756 4 true 2 ∷ Access 4124 2097152 1 false 31 ∷ Return 4132 4116 ∷ []
+  pub ending : w.machine.ending ≡ Some (Exited 0)
+
+abbrev pub BlockIsUsed : Type 0
+BlockIsUsed = (input : List ℕ) → UsesBlock (machine_after uses_block input 10)
+
+-- a run that writes nothing to the size table itself is safe if it is safe at its end
+abbrev pub SafeAtEnd : Type 0
+SafeAtEnd = (image : Image) (input : List ℕ) (n : ℕ) → IsImage image → All IsByte image.initial → All IsByte input → AreOffTable (events_of (machine_after image input n).told) → IsSafe 4 (global_blocks image) (machine_after image input n) → SafeRun 4 image input n
 
 -- each clause of safety refuses the image that is to break it
 pub record ClausesRefuse : Type 0 where

@@ -1,5 +1,5 @@
 //! The laws of the machine, for what stands on it.
-ghost use Rattle.rv_machine.specs.Examples.{ExampleIsSafe, ExampleExits, ClausesRefuse, UnsafeExamples};
+ghost use Rattle.rv_machine.specs.Examples.{ExampleIsSafe, ExampleExits, BlockIsUsedSafely, BlockIsUsed, SafeAtEnd, ClausesRefuse, UnsafeExamples};
 ghost use Rattle.rv_machine.specs.Laws.{EndingStays, StepTells, ToldGrows, FieldsFit, InstructionDone, WordReadBack, WordsStand, StepsAdd, CoreStays, FormStays, RunsAreFormed, LiveAreLaidOut, OnlyToldChange, TextStays, TextStands, TableFollows, RunsHaveTable};
 
 /// A machine that has ended stays as it is.
@@ -127,6 +127,34 @@ pub fn example_is_safe()
 /// That image exits with status 42 after three instructions.
 pub fn example_exits()
     ensures { ExampleExits }
+{
+    rv_code::laws::reads_back();
+}
+
+/// A run that writes nothing to the size table itself is safe if it is safe at its end.
+pub fn safe_at_end()
+    ensures { SafeAtEnd }
+{
+    rv_code::laws::reads_only();
+    size_table::laws::block_is_marked();
+    size_table::laws::marking_adds();
+    size_table::laws::marking_removes();
+}
+
+/// A run with moves, accesses, a call and a return can be safe too.
+pub fn block_is_used_safely()
+    ensures { BlockIsUsedSafely }
+{
+    rv_code::laws::reads_back();
+    rv_code::laws::reads_only();
+    size_table::laws::block_is_marked();
+    size_table::laws::marking_adds();
+    size_table::laws::marking_removes();
+}
+
+/// That run tells all these things.
+pub fn block_is_used()
+    ensures { BlockIsUsed }
 {
     rv_code::laws::reads_back();
 }
