@@ -22,3 +22,6 @@ pub mod MemoryLaws
 pub mod MadeLaws
 pub mod TextLaws
 pub mod TableLaws
+pub mod SafeRuns
+pub mod ExampleRuns
+pub mod UsedBlock

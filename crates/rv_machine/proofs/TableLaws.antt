@@ -129,7 +129,7 @@ pub table_follows : (below : LawsBelow) (image : Image) (w : World) → IsImage 
 unfolding KeepsTable HasTable
 table_follows below image w h f = step_table below image w h f (tells_of w.machine) (step_told w)
 
-off_first : (xs ys : List Event) → AreOffTable (xs ++ ys) → AreOffTable xs
+pub off_first : (xs ys : List Event) → AreOffTable (xs ++ ys) → AreOffTable xs
 off_first [] ys off = tt
 off_first (x ∷ xs) ys off = (off.0, off_first xs ys off.1)
 

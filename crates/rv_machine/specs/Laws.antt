@@ -10,9 +10,10 @@ use Rattle.rv_machine.specs.Changes.{NoneChanges, IsMadeIn, AreOffTable}
 use Rattle.rv_machine.specs.Environment.{Tell, Output, Happens, World, enter_events, leave_events, events_of}
 use Rattle.rv_machine.specs.Formed.{IsWord, IsByte, IsCore, IsFormed, AreLaidOut, live_in}
 use Rattle.rv_machine.specs.Instruction.{Act, Goes, Traps, Asks, core_step, core_events, instruction_at, effect, event_of}
+use Rattle.rv_machine.specs.Live.{global_blocks}
 use Rattle.rv_machine.specs.Machine.{step, steps, machine_after}
 use Rattle.rv_machine.specs.Memory.{word_at, written_at, bytes_of_words, Stand}
-use Rattle.rv_machine.specs.Safety.{table_in}
+use Rattle.rv_machine.specs.Safety.{IsSafe, SafeRun, table_in}
 use Rattle.rv_machine.specs.Start.{start_memory}
 use Rattle.rv_machine.specs.State.{Core, State, register_of}
 use Rattle.size_table.specs.Table.{IsTableOf}
@@ -114,3 +115,7 @@ TableFollows = (image : Image) (w : World) → IsImage image → IsFormed image 
 -- so it is in every run of a program that never writes to it
 abbrev pub RunsHaveTable : Type 0
 RunsHaveTable = (image : Image) (input : List ℕ) (n : ℕ) → IsImage image → All IsByte image.initial → All IsByte input → AreOffTable (events_of (machine_after image input n).told) → IsTableOf 4 (live_in image (machine_after image input n)) (table_in (machine_after image input n).machine.core.memory)
+
+-- a run that writes nothing to the size table itself is safe if it is safe at its end
+abbrev pub SafeAtEnd : Type 0
+SafeAtEnd = (image : Image) (input : List ℕ) (n : ℕ) → IsImage image → All IsByte image.initial → All IsByte input → AreOffTable (events_of (machine_after image input n).told) → IsSafe 4 (global_blocks image) (machine_after image input n) → SafeRun 4 image input n

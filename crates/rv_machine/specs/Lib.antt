@@ -13,3 +13,4 @@ pub mod Seen
 pub mod Formed
 pub mod Changes
 pub mod Laws
+pub mod Examples

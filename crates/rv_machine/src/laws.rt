@@ -1,5 +1,5 @@
 //! The laws of the machine, for what stands on it.
-ghost use Rattle.rv_machine.specs.Laws.{EndingStays, StepTells, ToldGrows, FieldsFit, InstructionDone, WordReadBack, OthersStay, WordsStand, StepsAdd, CoreStays, FormStays, RunsAreFormed, LiveAreLaidOut, OnlyToldChange, MadeIsZero, TextStays, TextStands, TableFollows, RunsHaveTable};
+ghost use Rattle.rv_machine.specs.Laws.{EndingStays, StepTells, ToldGrows, FieldsFit, InstructionDone, WordReadBack, OthersStay, WordsStand, StepsAdd, CoreStays, FormStays, RunsAreFormed, LiveAreLaidOut, OnlyToldChange, MadeIsZero, TextStays, TextStands, TableFollows, RunsHaveTable, SafeAtEnd};
 
 /// A machine that has ended stays as it is.
 pub fn ending_stays()
@@ -115,6 +115,16 @@ pub fn table_follows()
 /// So it is in every run of a program that never writes to it.
 pub fn runs_have_table()
     ensures { RunsHaveTable }
+{
+    rv_code::laws::reads_only();
+    size_table::laws::block_is_marked();
+    size_table::laws::marking_adds();
+    size_table::laws::marking_removes();
+}
+
+/// A run that writes nothing to the size table itself is safe if it is safe at its end.
+pub fn safe_at_end()
+    ensures { SafeAtEnd }
 {
     rv_code::laws::reads_only();
     size_table::laws::block_is_marked();

@@ -4,6 +4,7 @@
 mod access;
 mod blocks;
 mod core_step;
+pub mod examples;
 mod frames;
 pub mod laws;
 pub mod machine;

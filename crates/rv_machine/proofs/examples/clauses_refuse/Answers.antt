@@ -1,0 +1,5 @@
+use Rattle.rv_machine.proofs.ExampleRuns.{clauses_refuse}
+use Rattle.rv_machine.proofs.examples.clauses_refuse.Goals as goal
+
+pub returns : goal.returns
+returns c = clauses_refuse c.reads_back.ensures

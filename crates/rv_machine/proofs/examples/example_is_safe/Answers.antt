@@ -1,0 +1,10 @@
+use Rattle.rv_machine.proofs.ExampleRuns.{example_is_safe}
+use Rattle.rv_machine.proofs.examples.example_is_safe.Goals as goal
+
+pub returns : goal.returns
+returns c = example_is_safe c.reads_back.ensures (record {
+  reads = c.reads_only.ensures;
+  marked = c.block_is_marked.ensures;
+  adds = c.marking_adds.ensures;
+  removes = c.marking_removes.ensures;
+})

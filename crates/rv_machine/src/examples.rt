@@ -1,0 +1,52 @@
+//! Runs that are safe, and runs that are not: what the definition of safety takes and what it refuses.
+ghost use Rattle.rv_machine.specs.Examples.{ExampleIsSafe, ExampleExits, BlockIsUsedSafely, BlockIsUsed, ClausesRefuse, UnsafeExamples};
+
+/// A run can be safe: that of an image that only exits is, however long.
+pub fn example_is_safe()
+    ensures { ExampleIsSafe }
+{
+    rv_code::laws::reads_back();
+    rv_code::laws::reads_only();
+    size_table::laws::block_is_marked();
+    size_table::laws::marking_adds();
+    size_table::laws::marking_removes();
+}
+
+/// That image exits with status 42 after three instructions.
+pub fn example_exits()
+    ensures { ExampleExits }
+{
+    rv_code::laws::reads_back();
+}
+
+/// A run with moves, accesses, a call and a return can be safe too.
+pub fn block_is_used_safely()
+    ensures { BlockIsUsedSafely }
+{
+    rv_code::laws::reads_back();
+    rv_code::laws::reads_only();
+    size_table::laws::block_is_marked();
+    size_table::laws::marking_adds();
+    size_table::laws::marking_removes();
+}
+
+/// That run tells all these things.
+pub fn block_is_used()
+    ensures { BlockIsUsed }
+{
+    rv_code::laws::reads_back();
+}
+
+/// Each clause of safety refuses a run that breaks what the clause is for.
+pub fn clauses_refuse()
+    ensures { ClausesRefuse }
+{
+    rv_code::laws::reads_back();
+}
+
+/// So each of these runs is not safe.
+pub fn unsafe_examples()
+    ensures { UnsafeExamples }
+{
+    rv_code::laws::reads_back();
+}
