@@ -1,5 +1,5 @@
 -- What an instruction does to the memory, and to the live blocks, by what it tells.
-use Rattle.std.proofs.Common.{◌≡◌, ℕ, ◌+◌, ◌/◌, ◌%◌, ◌<◌, ◌≤◌, Bool, true, false, cond, eqb, ltb, leb, List, [], ◌∷◌, length, get_or, set, Option, Some, None, refl, sym, ◌∙◌, inl, inr, ◌⊎◌, arith, get_or-set_other, ◌≢◌, subst}
+use Rattle.std.proofs.Common.{◌≡◌, ℕ, ◌+◌, ◌/◌, ◌%◌, ◌<◌, ◌≤◌, Bool, true, false, cond, eqb, ltb, leb, List, [], ◌∷◌, length, get_or, Option, Some, None, refl, sym, inl, inr, ◌⊎◌, arith, subst}
 use Rattle.std.specs.Prelude.{◌||◌}
 use Rattle.std.specs.Int.{to_le_bytes, w16, w32}
 use Rattle.std.proofs.lemmas.Bool.{cases_lt}
@@ -16,6 +16,7 @@ use Rattle.rv_machine.specs.Instruction.{Act, Goes, Traps, Asks, access_trap, un
 use Rattle.rv_machine.specs.Live.{live_of}
 use Rattle.rv_machine.specs.Memory.{written_at}
 use Rattle.rv_machine.specs.State.{Core, register_of, set_register, next, with_memory}
+use Rattle.rv_machine.proofs.Tables.{written_other}
 use Rattle.size_table.specs.Blocks.{Block}
 
 -- the events tell of no block that is made or ends
@@ -81,15 +82,6 @@ kept_branch true imm c = kept_jump [] (sum c.pc imm) c c (silent [] c.memory non
 kept_branch false imm c = silent [] c.memory none
 
 -- ---- Stores
-
-pub written_other : (m : List ℕ) (at : ℕ) (bs : List ℕ) (i : ℕ) → (i < at) ⊎ (at + length bs ≤ i) → get_or (written_at m at bs) i 0 ≡ get_or m i 0
-written_other m at [] i h = refl
-written_other m at (b ∷ bs) i (inl h) =
-    let other : i ≢ at = omega (arith, h) in
-    written_other (set m at b) (at + 1) bs i (inl (omega (arith, h))) ∙ get_or-set_other m at i b 0 other
-written_other m at (b ∷ bs) i (inr h) =
-    let other : i ≢ at = omega (arith, h) in
-    written_other (set m at b) (at + 1) bs i (inr (omega (arith, h))) ∙ get_or-set_other m at i b 0 other
 
 -- an access that does not trap lies above the text
 above_text : (at size : ℕ) → access_trap at size ≡ None → 2097152 ≤ at

@@ -1,10 +1,11 @@
 -- An instruction keeps what holds of the core of every machine.
 use Rattle.std.proofs.Common.{◌≡◌, ◌≢◌, ℕ, ◌+◌, ◌%◌, ◌^◌, ◌<◌, ◌≤◌, Bool, true, false, cond, eqb, ltb, leb, List, [], ◌∷◌, length, get_or, set, Option, Some, None, refl, sym, subst, ◌∙◌, arith, lit<, get_or-set_other, length-set}
-use Rattle.std.specs.Prelude.{All, ◌||◌, IfSome}
+use Rattle.std.specs.Prelude.{◌||◌, IfSome}
+use Rattle.std.specs.List.{AllByRecursion}
 use Rattle.std.specs.Int.{to_le_bytes, w16, w32}
 use Rattle.std.proofs.Math.ListN.{get_or-eq_default}
 use Rattle.std.proofs.lemmas.Bool.Decides.{nat_tests}
-use Rattle.std.proofs.lemmas.List.Elements.{All-set}
+use Rattle.std.proofs.lemmas.List.Elements.{All-set, All-from_recursion}
 use Rattle.bb_words.specs.Numbers.{sum}
 use Rattle.bb_words.specs.declared.kinds.TrapKind.{TrapKind}
 use Rattle.bb_words.specs.declared.kinds.TrapKind.TheVariants.{Fetch}
@@ -18,6 +19,7 @@ use Rattle.rv_machine.specs.Instruction.{Act, Goes, Traps, Asks, access_trap, un
 use Rattle.rv_machine.specs.Memory.{half_at, word_at, written_at}
 use Rattle.rv_machine.specs.State.{Core, register_of, set_register, next, gives, with_memory}
 use Rattle.rv_machine.proofs.Bounds as bounds
+use Rattle.rv_machine.proofs.Tables.{written_long, written_bytes}
 
 abbrev IfGoes : (Core → Type 0) → Act → Type 0
 IfGoes P (Goes c) = P c
@@ -57,27 +59,14 @@ unless_core (Some kind) c h = tt
 loads_core : (rd at size v : ℕ) (c : Core) → IsCore c → c.pc < 2097152 → IsWord v → IfGoes IsCore (loads rd at size v c)
 loads_core rd at size v c h t p = unless_core (access_trap at size) (gives rd v c) (gives_core rd v c h t p)
 
-AreBytes : List ℕ → Type 0
-AreBytes [] = Unit {0}
-AreBytes (b ∷ bs) = IsByte b × AreBytes bs
-
-written_long : (m : List ℕ) (at : ℕ) (bs : List ℕ) → length (written_at m at bs) ≡ length m
-written_long m at [] = refl
-written_long m at (b ∷ bs) = written_long (set m at b) (at + 1) bs ∙ length-set m at b
-
-written_bytes : (m : List ℕ) (at : ℕ) (bs : List ℕ) → All IsByte m → AreBytes bs → All IsByte (written_at m at bs)
-unfolding AreBytes
-written_bytes m at [] h p = h
-written_bytes m at (b ∷ bs) h p = written_bytes (set m at b) (at + 1) bs (All-set IsByte m at b p.0 h) p.1
-
-stores_core : (at size : ℕ) (bs : List ℕ) (c : Core) → IsCore c → c.pc < 2097152 → AreBytes bs → IfGoes IsCore (stores at size bs c)
+stores_core : (at size : ℕ) (bs : List ℕ) (c : Core) → IsCore c → c.pc < 2097152 → AllByRecursion IsByte bs → IfGoes IsCore (stores at size bs c)
 stores_core at size bs c h t p = unless_core (access_trap at size) (next (with_memory (written_at c.memory at bs) c)) (record {
   pc = omega (arith, t);
   registers = h.registers;
   words = h.words;
   zero = h.zero;
   memory = written_long c.memory at bs ∙ h.memory;
-  bytes = written_bytes c.memory at bs h.bytes p;
+  bytes = written_bytes c.memory at bs h.bytes (All-from_recursion IsByte bs p);
 })
 
 jump_if : (b : Bool) (kind : TrapKind) (c : Core) → IsCore c → IfGoes IsCore (cond b (Goes c) (Traps kind))
@@ -126,16 +115,13 @@ half_fits n h = omega (arith, h)
 even_fits : (n : ℕ) → IsWord n → IsWord (even n)
 even_fits n h = omega (arith, h)
 
-half_bytes : (v : ℕ) → AreBytes (to_le_bytes w16 (v % 65536))
-unfolding AreBytes
+half_bytes : (v : ℕ) → AllByRecursion IsByte (to_le_bytes w16 (v % 65536))
 half_bytes v = (omega arith, (omega arith, tt))
 
-word_bytes : (v : ℕ) → AreBytes (to_le_bytes w32 v)
-unfolding AreBytes
+word_bytes : (v : ℕ) → AllByRecursion IsByte (to_le_bytes w32 v)
 word_bytes v = (omega arith, (omega arith, (omega arith, (omega arith, tt))))
 
-one_byte : (v : ℕ) → AreBytes (v % 256 ∷ [])
-unfolding AreBytes
+one_byte : (v : ℕ) → AllByRecursion IsByte (v % 256 ∷ [])
 one_byte v = (omega arith, tt)
 
 effect_core : (i : Instr) → Fits i → (c : Core) → IsCore c → c.pc < 2097152 → IfGoes IsCore (effect i c)
@@ -154,9 +140,9 @@ effect_core (Lh rd rs1 imm) f c h t = loads_core rd (address c rs1 imm) 2 _ c h 
 effect_core (Lw rd rs1 imm) f c h t = loads_core rd (address c rs1 imm) 4 _ c h t (whole c (address c rs1 imm) h)
 effect_core (Lbu rd rs1 imm) f c h t = loads_core rd (address c rs1 imm) 1 (get_or c.memory (address c rs1 imm) 0) c h t (byte_fits _ (byte c (address c rs1 imm) h))
 effect_core (Lhu rd rs1 imm) f c h t = loads_core rd (address c rs1 imm) 2 (half_at c.memory (address c rs1 imm)) c h t (half_fits _ (half c (address c rs1 imm) h))
-effect_core (Sb rs1 rs2 imm) f c h t = stores_core (address c rs1 imm) 1 _ c h t (one_byte (register_of c rs2))
-effect_core (Sh rs1 rs2 imm) f c h t = stores_core (address c rs1 imm) 2 _ c h t (half_bytes (register_of c rs2))
-effect_core (Sw rs1 rs2 imm) f c h t = stores_core (address c rs1 imm) 4 _ c h t (word_bytes (register_of c rs2))
+effect_core (Sb rs1 rs2 imm) f c h t = stores_core (address c rs1 imm) 1 (register_of c rs2 % 256 ∷ []) c h t (one_byte (register_of c rs2))
+effect_core (Sh rs1 rs2 imm) f c h t = stores_core (address c rs1 imm) 2 (to_le_bytes w16 (register_of c rs2 % 65536)) c h t (half_bytes (register_of c rs2))
+effect_core (Sw rs1 rs2 imm) f c h t = stores_core (address c rs1 imm) 4 (to_le_bytes w32 (register_of c rs2)) c h t (word_bytes (register_of c rs2))
 effect_core (Addi rd rs1 imm) f c h t = gives_core rd _ c h t (bounds.sum_fits (register_of c rs1) imm)
 effect_core (Slti rd rs1 imm) f c h t = gives_core rd _ c h t (bounds.signed_below_fits (register_of c rs1) imm)
 effect_core (Sltiu rd rs1 imm) f c h t = gives_core rd _ c h t (bounds.unsigned_below_fits (register_of c rs1) imm)

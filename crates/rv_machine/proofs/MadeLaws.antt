@@ -1,15 +1,14 @@
 -- The bytes of a block that was made are zero.
-use Rattle.std.proofs.Common.{◌≡◌, ℕ, ◌+◌, ◌%◌, ◌≤◌, List, [], ◌∷◌, ◌++◌, get_or, Option, Some, None, refl, sym, ap, subst, ◌∙◌, inl, inr, arith, append-nil}
+use Rattle.std.proofs.Common.{◌≡◌, ℕ, ◌+◌, ◌%◌, ◌≤◌, List, [], ◌∷◌, ◌++◌, get_or, Some, refl, sym, ap, subst, ◌∙◌, inl, inr, arith, append-nil}
 use Rattle.std.proofs.lemmas.List.{append_cancel_left}
 use Rattle.std.specs.Prelude.{map, slice_get}
-use Rattle.bb_words.specs.declared.kinds.ReportKind.{ReportKind}
 use Rattle.bb_watch.specs.declared.event.Event.{Event}
 use Rattle.rv_image.specs.declared.image.Image.{Image}
 use Rattle.rv_image.specs.Rules.{IsImage, total_size}
 use Rattle.rv_machine.specs.declared.frames.Entry.TheVariants.{NoFrame, TooDeep, NoRoom}
 use Rattle.rv_machine.specs.Blocks.{blocks_from}
 use Rattle.rv_machine.specs.Changes.{IsMadeIn}
-use Rattle.rv_machine.specs.Environment.{World, Tell, Output, Happens, with_machine, telling, events_of, calls, gets, gets_from, puts, kind_of, reports, reported_if, enters, enter_events, leaving, leaves, leave_events, made_event, ended_event}
+use Rattle.rv_machine.specs.Environment.{World, Tell, Output, Happens, with_machine, telling, events_of, calls, gets, puts, kind_of, reports, enters, enter_events, leaving, leaves, leave_events, made_event, ended_event}
 use Rattle.rv_machine.specs.Formed.{IsFormed}
 use Rattle.rv_machine.specs.Frames.{Entering, entered_at, refused, stack_under}
 use Rattle.rv_machine.specs.Instruction.{core_events}
@@ -21,9 +20,9 @@ use Rattle.rv_machine.proofs.BlockMemory.{all_made_zero}
 use Rattle.rv_machine.proofs.Cases.{by_step, by_call, by_entering}
 use Rattle.rv_machine.proofs.Changes.{step_keeps}
 use Rattle.rv_machine.proofs.Forms.{is_entered, entered_world, core_memory}
-use Rattle.rv_machine.proofs.Tells.{step_told}
+use Rattle.rv_machine.proofs.Tells.{gets_told, step_told}
 use Rattle.size_table.specs.Blocks.{Block}
-use Rattle.rv_machine.proofs.MemoryLaws.{events_more}
+use Rattle.rv_machine.proofs.MemoryLaws.{events_more, reports_told}
 
 MadeZero : World → World → Type 0
 MadeZero w v = (more : List Tell) → v.told ≡ w.told ++ more → (at : ℕ) → IsMadeIn (events_of more) at → get_or v.machine.core.memory at 0 ≡ 0
@@ -36,14 +35,6 @@ none_made w v events told none more e at made =
 
 quiet_made : (w v : World) → v.told ≡ w.told → MadeZero w v
 quiet_made w v told = none_made w v [] (told ∙ sym (append-nil w.told)) (λ at m. m)
-
-gets_quiet : (w : World) (left : List ℕ) → (gets_from left w).told ≡ w.told
-gets_quiet w [] = refl
-gets_quiet w (byte ∷ bytes) = refl
-
-reports_quiet : (w : World) (kind : Option ReportKind) → (with_machine (reported_if kind) w).told ≡ w.told
-reports_quiet w None = refl
-reports_quiet w (Some kind) = refl
 
 puts_made : (w : World) → MadeZero w (puts w)
 unfolding MadeZero
@@ -88,9 +79,9 @@ leaves_made w = none_made w (telling leave_events leaves w) (leave_events w.mach
 calls_made : (image : Image) (w : World) → IsImage image → IsFormed image w → MadeZero w (calls w)
 calls_made image w h f = by_call (MadeZero w) w (record {
   exit = quiet_made w _ refl;
-  getchar = quiet_made w (gets w) (gets_quiet w w.left);
+  getchar = quiet_made w (gets w) (gets_told w.left w);
   putchar = puts_made w;
-  report = quiet_made w (with_machine reports w) (reports_quiet w (kind_of (register_of w.machine.core 10)));
+  report = quiet_made w (with_machine reports w) (reports_told w (kind_of (register_of w.machine.core 10)));
   enter = enters_made image w h f;
   leave = leaves_made w;
   other = quiet_made w _ refl;

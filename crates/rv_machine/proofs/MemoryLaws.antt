@@ -37,6 +37,10 @@ pub gets_memory : (w : World) (left : List ℕ) → (gets_from left w).machine.c
 gets_memory w [] = refl
 gets_memory w (byte ∷ bytes) = refl
 
+pub reports_told : (w : World) (kind : Option ReportKind) → (with_machine (reported_if kind) w).told ≡ w.told
+reports_told w None = refl
+reports_told w (Some kind) = refl
+
 pub reports_memory : (w : World) (kind : Option ReportKind) → (with_machine (reported_if kind) w).machine.core.memory ≡ w.machine.core.memory
 reports_memory w None = refl
 reports_memory w (Some kind) = refl

@@ -1,5 +1,5 @@
 -- Words that stand in memory, and what the machine does at one.
-use Rattle.std.proofs.Common.{◌≡◌, ◌≢◌, ℕ, ◌+◌, ◌*◌, ◌/◌, ◌%◌, ◌<◌, ◌≤◌, ltb, leb, false, List, [], ◌∷◌, length, get_or, set, Option, Some, refl, sym, ap, subst, ◌∙◌, arith, lit<, lit≤, get_or-set_other, get_or-set_same, length-set}
+use Rattle.std.proofs.Common.{◌≡◌, ℕ, ◌+◌, ◌*◌, ◌/◌, ◌%◌, ◌<◌, ◌≤◌, ltb, leb, false, List, [], ◌∷◌, length, get_or, set, Option, Some, refl, sym, ap, subst, inl, ◌∙◌, arith, lit<, lit≤, get_or-set_other, get_or-set_same, length-set}
 use Rattle.std.specs.List.{AllByRecursion}
 use Rattle.std.proofs.lemmas.Bool.Decides.{nat_tests}
 use Rattle.std.proofs.lemmas.Nat.{from_le_bytes-to_le_bytes_4}
@@ -10,15 +10,9 @@ use Rattle.rv_machine.specs.State.{Core}
 use Rattle.rv_machine.specs.Memory.{word_at, written_at, bytes_of_words, Stand}
 use Rattle.rv_machine.specs.Formed.{IsWord}
 use Rattle.rv_machine.specs.Instruction.{effect, core_step, core_events, event_of, event_if}
+use Rattle.rv_machine.proofs.Tables.{written_other}
 
 -- ---- Words that stand in memory
-
--- bytes that are written do not change those below
-written_below : (m : List ℕ) (at : ℕ) (bs : List ℕ) (k : ℕ) → k < at → get_or (written_at m at bs) k 0 ≡ get_or m k 0
-written_below m at [] k h = refl
-written_below m at (b ∷ bs) k h =
-    let ne : k ≢ at = omega arith in
-    written_below (set m at b) (at + 1) bs k (omega arith) ∙ get_or-set_other m at k b 0 ne
 
 -- four bytes that are written
 abbrev four : List ℕ → ℕ → ℕ → ℕ → ℕ → ℕ → List ℕ
@@ -43,7 +37,7 @@ words_stand (w ∷ ws) m at s h =
     let e : at + 1 + 1 + 1 + 1 ≡ at + 4 = omega arith in
     let l = four_long m at a b c d in
     let bs = bytes_of_words ws in
-    let low : (k : ℕ) → k < at + 4 → get_or (written_at m4 (at + 1 + 1 + 1 + 1) bs) k 0 ≡ get_or m4 k 0 = λ k g. written_below m4 (at + 1 + 1 + 1 + 1) bs k (omega arith) in
+    let low : (k : ℕ) → k < at + 4 → get_or (written_at m4 (at + 1 + 1 + 1 + 1) bs) k 0 ≡ get_or m4 k 0 = λ k g. written_other m4 (at + 1 + 1 + 1 + 1) bs k (inl (omega arith)) in
     (rw (low at (omega arith) ∙ f.0, low (at + 1) (omega arith) ∙ f.1, low (at + 2) (omega arith) ∙ f.2, low (at + 3) (omega arith) ∙ f.3) (from_le_bytes-to_le_bytes_4 w s.0), subst (λ (n : ℕ). Stand (written_at m4 n bs) (at + 4) ws) (sym e) (words_stand ws m4 (at + 4) s.1 (omega arith)))
 
 -- ---- One instruction

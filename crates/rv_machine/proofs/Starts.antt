@@ -17,22 +17,13 @@ use Rattle.rv_machine.specs.Start.{start, start_memory, start_registers}
 use Rattle.rv_machine.specs.State.{memory_size}
 use Rattle.rv_machine.proofs.BlockLists.{from_aligned, from_disjoint}
 use Rattle.rv_machine.proofs.BlockMemory.{IsMemory, size_is, tabled_memory}
-use Rattle.rv_machine.proofs.Changes.{written_other}
 use Rattle.rv_machine.proofs.Programs.{words_stand}
 use Rattle.rv_machine.proofs.TableMemory.{LawsBelow, added, tabled_marks, first_disjoint, table_at, table_long, table_stays}
-use Rattle.rv_machine.proofs.Tables.{written_append}
+use Rattle.rv_machine.proofs.Tables.{written_append, written_long, written_bytes, written_other}
 use Rattle.size_table.specs.Blocks.{Block, block_at, IsBlock, AreDisjoint}
 use Rattle.size_table.specs.Table.{IsTableOf, filled}
 
 -- ---- Bytes that are written
-
-written_long : (m : List ℕ) (at : ℕ) (bs : List ℕ) → length (written_at m at bs) ≡ length m
-written_long m at [] = refl
-written_long m at (b ∷ bs) = written_long (set m at b) (at + 1) bs ∙ length-set m at b
-
-written_bytes : (m : List ℕ) (at : ℕ) (bs : List ℕ) → All IsByte m → All IsByte bs → All IsByte (written_at m at bs)
-written_bytes m at [] h p = h
-written_bytes m at (b ∷ bs) h p = written_bytes (set m at b) (at + 1) bs (All-set IsByte m at b (All-head IsByte b bs p) h) (All-tail IsByte b bs p)
 
 written_memory : (m : List ℕ) (at : ℕ) (bs : List ℕ) → IsMemory m → All IsByte bs → IsMemory (written_at m at bs)
 written_memory m at bs i p = record { size = written_long m at bs ∙ i.size; bytes = written_bytes m at bs i.bytes p }

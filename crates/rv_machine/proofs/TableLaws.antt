@@ -1,14 +1,13 @@
 -- The size table follows the blocks.
-use Rattle.std.proofs.Common.{◌≡◌, ℕ, zero, suc, ◌+◌, ◌-◌, ◌%◌, List, [], ◌∷◌, ◌++◌, length, take, Option, Some, None, refl, sym, ap, subst, ◌∙◌, arith, append-nil}
+use Rattle.std.proofs.Common.{◌≡◌, ℕ, zero, suc, ◌+◌, ◌-◌, ◌%◌, List, [], ◌∷◌, ◌++◌, length, take, refl, sym, ap, subst, ◌∙◌, arith, append-nil}
 use Rattle.std.specs.Prelude.{map, reverse, slice_get}
-use Rattle.bb_words.specs.declared.kinds.ReportKind.{ReportKind}
 use Rattle.bb_watch.specs.declared.event.Event.{Event}
 use Rattle.rv_image.specs.declared.image.Image.{Image}
 use Rattle.rv_image.specs.Rules.{IsImage, total_size}
 use Rattle.rv_machine.specs.declared.frames.Entry.TheVariants.{NoFrame, TooDeep, NoRoom}
 use Rattle.rv_machine.specs.Blocks.{blocks_from, all_made, all_ended}
 use Rattle.rv_machine.specs.Changes.{AreOffTable}
-use Rattle.rv_machine.specs.Environment.{World, Tell, Output, Happens, with_machine, telling, events_of, calls, gets, gets_from, puts, kind_of, reports, reported_if, enters, enter_events, leaves, leave_events, made_event, ended_event}
+use Rattle.rv_machine.specs.Environment.{World, Tell, Output, Happens, with_machine, telling, events_of, calls, gets, puts, kind_of, reports, enters, enter_events, leaves, leave_events, made_event, ended_event}
 use Rattle.rv_machine.specs.Formed.{IsFormed, live_in}
 use Rattle.rv_machine.specs.Frames.{Entering, Leaving, last_entered, not_left, refused, stack_under}
 use Rattle.rv_machine.specs.Instruction.{Goes, core_step, core_events}
@@ -24,10 +23,10 @@ use Rattle.rv_machine.proofs.Cores.{step_core}
 use Rattle.rv_machine.proofs.Forms.{is_entered, is_left, entered_world, left_world, core_memory, steps_formed}
 use Rattle.rv_machine.proofs.LiveLists.{live_append, events_append, events_happen, live_made, live_ended}
 use Rattle.rv_machine.proofs.TableMemory.{LawsBelow, all_made_table, all_ended_table, table_stays}
-use Rattle.rv_machine.proofs.Tells.{step_told}
+use Rattle.rv_machine.proofs.Tells.{gets_told, step_told}
 use Rattle.size_table.specs.Blocks.{Block}
 use Rattle.size_table.specs.Table.{IsTableOf}
-use Rattle.rv_machine.proofs.MemoryLaws.{events_more, gets_memory, reports_memory}
+use Rattle.rv_machine.proofs.MemoryLaws.{events_more, gets_memory, reports_memory, reports_told}
 
 HasTable : Image → World → Type 0
 HasTable image w = IsTableOf 4 (live_in image w) (table_in w.machine.core.memory)
@@ -49,14 +48,6 @@ events_then : (image : Image) (w : World) (events : List Event) → live_of (glo
 events_then image w events =
     ap (live_of (global_blocks image)) (events_append w.told (map Happens events) ∙ ap (λ (l : List Event). events_of w.told ++ l) (events_happen events))
     ∙ live_append (global_blocks image) (events_of w.told) events
-
-gets_told : (w : World) (left : List ℕ) → events_of (gets_from left w).told ≡ events_of w.told
-gets_told w [] = refl
-gets_told w (byte ∷ bytes) = refl
-
-reports_told : (w : World) (kind : Option ReportKind) → events_of (with_machine (reported_if kind) w).told ≡ events_of w.told
-reports_told w None = refl
-reports_told w (Some kind) = refl
 
 puts_told : (w : World) → events_of (puts w).told ≡ events_of w.told
 puts_told w = events_append w.told (Output (register_of w.machine.core 10 % 256) ∷ []) ∙ append-nil (events_of w.told)
@@ -109,9 +100,9 @@ leaves_table below image w h f =
 calls_table : (below : LawsBelow) (image : Image) (w : World) → IsImage image → IsFormed image w → KeepsTable image w (calls w)
 calls_table below image w h f = by_call (KeepsTable image w) w (record {
   exit = table_unchanged image w _ refl refl;
-  getchar = table_unchanged image w (gets w) (gets_memory w w.left) (gets_told w w.left);
+  getchar = table_unchanged image w (gets w) (gets_memory w w.left) (ap events_of (gets_told w.left w));
   putchar = table_unchanged image w (puts w) refl (puts_told w);
-  report = table_unchanged image w (with_machine reports w) (reports_memory w (kind_of (register_of w.machine.core 10))) (reports_told w (kind_of (register_of w.machine.core 10)));
+  report = table_unchanged image w (with_machine reports w) (reports_memory w (kind_of (register_of w.machine.core 10))) (ap events_of (reports_told w (kind_of (register_of w.machine.core 10))));
   enter = enters_table below image w h f;
   leave = leaves_table below image w h f;
   other = table_unchanged image w _ refl refl;

@@ -1,12 +1,13 @@
 -- Bytes that are written one after another, and the bytes of the size table.
-use Rattle.std.proofs.Common.{◌≡◌, ℕ, suc, ◌+◌, ◌-◌, ◌*◌, ◌%◌, ◌^◌, ◌<◌, List, [], ◌∷◌, ◌++◌, length, get_or, drop, refl, sym, ap, ◌∙◌, arith, add-one, drop-cons, length-append}
+use Rattle.std.proofs.Common.{◌≡◌, ℕ, suc, ◌+◌, ◌-◌, ◌*◌, ◌%◌, ◌^◌, ◌<◌, ◌≤◌, ◌≢◌, ◌⊎◌, List, [], ◌∷◌, ◌++◌, length, get_or, set, drop, refl, sym, ap, ◌∙◌, inl, inr, arith, length-set, get_or-set_other, add-one, drop-cons, length-append}
 use Rattle.std.specs.Prelude.{slice_set, replicate, All}
 use Rattle.std.specs.List.{AllByRecursion}
 use Rattle.std.proofs.lemmas.List.{length-replicate}
-use Rattle.std.proofs.lemmas.List.Elements.{All-from_recursion}
+use Rattle.std.proofs.lemmas.List.Elements.{All-from_recursion, All-set, All-head, All-tail}
 use Rattle.std.proofs.lemmas.Nat.{pow-add}
 use Rattle.std.proofs.Math.Pow.{pow-lt}
 use Rattle.rv_image.specs.Rules.{Decline, total_size}
+use Rattle.rv_machine.specs.Formed.{IsByte}
 use Rattle.rv_machine.specs.Memory.{written_at, table_bytes, IsExponent}
 
 pub written_append : (memory : List ℕ) (at : ℕ) (a b : List ℕ) → written_at memory at (a ++ b) ≡ written_at (written_at memory at a) (at + length a) b
@@ -14,6 +15,23 @@ written_append memory at [] b = let e : at ≡ at + 0 = omega arith in ap (λ k.
 written_append memory at (x ∷ a) b =
     let e : at + 1 + length a ≡ at + length (x ∷ a) = omega arith in
     written_append (slice_set memory at x) (at + 1) a b ∙ ap (λ k. written_at (written_at memory at (x ∷ a)) k b) e
+
+pub written_long : (m : List ℕ) (at : ℕ) (bs : List ℕ) → length (written_at m at bs) ≡ length m
+written_long m at [] = refl
+written_long m at (b ∷ bs) = written_long (set m at b) (at + 1) bs ∙ length-set m at b
+
+pub written_bytes : (m : List ℕ) (at : ℕ) (bs : List ℕ) → All IsByte m → All IsByte bs → All IsByte (written_at m at bs)
+written_bytes m at [] h p = h
+written_bytes m at (b ∷ bs) h p = written_bytes (set m at b) (at + 1) bs (All-set IsByte m at b (All-head IsByte b bs p) h) (All-tail IsByte b bs p)
+
+pub written_other : (m : List ℕ) (at : ℕ) (bs : List ℕ) (i : ℕ) → (i < at) ⊎ (at + length bs ≤ i) → get_or (written_at m at bs) i 0 ≡ get_or m i 0
+written_other m at [] i h = refl
+written_other m at (b ∷ bs) i (inl h) =
+    let other : i ≢ at = omega (arith, h) in
+    written_other (set m at b) (at + 1) bs i (inl (omega (arith, h))) ∙ get_or-set_other m at i b 0 other
+written_other m at (b ∷ bs) i (inr h) =
+    let other : i ≢ at = omega (arith, h) in
+    written_other (set m at b) (at + 1) bs i (inr (omega (arith, h))) ∙ get_or-set_other m at i b 0 other
 
 pub copies_more : (memory : List ℕ) (at i count byte : ℕ) → i < count → written_at (slice_set memory (at + i) byte) (at + (i + 1)) (replicate (count - (i + 1)) byte) ≡ written_at memory (at + i) (replicate (count - i) byte)
 copies_more memory at i count byte h =

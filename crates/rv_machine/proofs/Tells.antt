@@ -10,7 +10,7 @@ use Rattle.rv_machine.specs.Laws.{call_tells, act_tells, tells_of, tells_unless_
 use Rattle.rv_machine.specs.Machine.{step, steps, acted, unless_ended}
 
 -- getchar tells nothing
-gets_told : (bytes : List ℕ) (w : World) → (gets_from bytes w).told ≡ w.told
+pub gets_told : (bytes : List ℕ) (w : World) → (gets_from bytes w).told ≡ w.told
 gets_told [] w = refl
 gets_told (byte ∷ bytes) w = refl
 

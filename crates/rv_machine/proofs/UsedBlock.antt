@@ -22,7 +22,7 @@ use Rattle.rv_machine.specs.Memory.{Stand, word_at, written_at}
 use Rattle.rv_machine.specs.Safety.{IsSafe, IsSafeEnding, SafeRun, Each, IsMoveSafe, IsAccessSafe, IsControlSafe, open_after}
 use Rattle.rv_machine.specs.Start.{start, start_memory, start_registers}
 use Rattle.rv_machine.specs.State.{Core}
-use Rattle.rv_machine.proofs.Changes.{written_other}
+use Rattle.rv_machine.proofs.Tables.{written_other}
 use Rattle.rv_machine.proofs.ExampleRuns.{went, asked, standing}
 use Rattle.rv_machine.proofs.TableLaws.{steps_table}
 use Rattle.rv_machine.proofs.SafeRuns.{safe_at_end}

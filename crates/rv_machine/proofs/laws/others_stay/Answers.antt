@@ -1,4 +1,4 @@
-use Rattle.rv_machine.proofs.Changes.{written_other}
+use Rattle.rv_machine.proofs.Tables.{written_other}
 use Rattle.rv_machine.proofs.laws.others_stay.Goals as goal
 
 pub returns : goal.returns
