@@ -1,6 +1,7 @@
 -- Runs of small images.
-use Rattle.std.proofs.Common.{◌≡◌, ℕ, zero, suc, ◌<◌, ◌≤◌, ◌*◌, ◌^◌, ◌⊎◌, true, false, List, [], ◌∷◌, ◌++◌, length, set, Some, None, refl, sym, ap, subst, ◌∙◌, inl, inr, arith, get_or-set_same, lit<, lit≤}
+use Rattle.std.proofs.Common.{◌≡◌, ◌≢◌, ◌+◌, get_or, get_or-set_other, length-set, ℕ, zero, suc, ◌<◌, ◌≤◌, ◌*◌, ◌^◌, ◌⊎◌, true, false, List, [], ◌∷◌, ◌++◌, length, set, Some, None, refl, sym, ap, subst, ◌∙◌, inl, inr, arith, get_or-set_same, lit<, lit≤}
 use Rattle.std.specs.Prelude.{All, IsSome, map}
+use Rattle.std.proofs.lemmas.Bool.{cases_eq}
 use Rattle.std.proofs.lemmas.List.Elements.{All-nil, All-from_recursion}
 use Rattle.bb_words.specs.declared.kinds.TrapKind.{TrapKind}
 use Rattle.bb_words.specs.declared.kinds.TrapKind.TheVariants.{Break}
@@ -14,7 +15,7 @@ use Rattle.rv_image.specs.declared.image.Image.{Image}
 use Rattle.rv_image.specs.Rules.{IsImage}
 use Rattle.rv_machine.specs.declared.stop.Halt.TheVariants.{Exited, Trapped}
 use Rattle.rv_machine.specs.Environment.{World, Tell, Happens, events_of, with_machine, calls, exits}
-use Rattle.rv_machine.specs.Examples.{image_with, forty_two, moves_unowned, reads_unowned, writes_table, changes_table, returns_nowhere, breaks, ClausesRefuse, UnsafeExamples}
+use Rattle.rv_machine.specs.Examples.{image_with, forty_two, moves_unowned, reads_unowned, writes_table, changes_table, returns_nowhere, breaks, Clause, OnMoves, OnAccesses, OnControl, OnTable, OnReturns, OnTraps, Holds, BreaksAlone, ClausesRefuse, UnsafeExamples}
 use Rattle.rv_machine.specs.Formed.{IsByte, IsWord}
 use Rattle.rv_machine.specs.Instruction.{Goes, Traps, Asks, effect, event_of}
 use Rattle.rv_machine.specs.Live.{global_blocks, live_of}
@@ -22,11 +23,11 @@ use Rattle.rv_machine.specs.Machine.{step, steps, machine_after}
 use Rattle.rv_machine.specs.Memory.{Stand, word_at, written_at}
 use Rattle.rv_machine.specs.Safety.{IsSafe, IsSafeEnding, SafeRun, Each, IsMoveSafe, IsAccessSafe, IsControlSafe, LieIn, WasFreed, open_after, table_in}
 use Rattle.rv_machine.specs.Start.{start, start_memory, start_registers, start_frames}
-use Rattle.rv_machine.specs.State.{Core, with_core, halted}
+use Rattle.rv_machine.specs.State.{Core, Frames, with_core, halted}
 use Rattle.rv_machine.proofs.Programs.{does_instr, tells_instr}
 use Rattle.rv_machine.proofs.Starts.{start_stands, start_table, start_whole}
 use Rattle.rv_machine.proofs.Steps.{step_acts, steps_stay}
-use Rattle.rv_machine.proofs.TableMemory.{LawsBelow, table_at}
+use Rattle.rv_machine.proofs.TableMemory.{LawsBelow, table_at, table_long}
 use Rattle.size_table.specs.Table.{IsTableOf}
 
 -- ---- One instruction
@@ -54,13 +55,23 @@ asked back w at = step_acts w Asks at.running (does_instr back w.machine.core Ec
 
 -- ---- The first machine
 
--- a machine without frames, that has not ended
-abbrev pub standing : (pc : ℕ) → (registers memory input : List ℕ) → List Tell → World
-standing pc registers memory input told = record {
-  machine = record { core = record { pc = pc; registers = registers; memory = memory }; frames = start_frames []; ending = None };
+-- a machine with these frames, that has not ended
+abbrev pub standing_in : Frames → (pc : ℕ) → (registers memory input : List ℕ) → List Tell → World
+standing_in frames pc registers memory input told = record {
+  machine = record { core = record { pc = pc; registers = registers; memory = memory }; frames = frames; ending = None };
   left = input;
   told = told;
 }
+
+-- one of an image without frames
+abbrev pub standing : (pc : ℕ) → (registers memory input : List ℕ) → List Tell → World
+standing = standing_in (start_frames [])
+
+-- one instruction at a place of the text
+pub goes : ReadsBack → (frames : Frames) (i : Instr) (pc : ℕ) (registers m input : List ℕ) (told : List Tell) (d : Core) → 4096 ≤ pc → pc < 2097152 → Fits i → word_at m pc ≡ word_of i
+    → effect i (record { pc = pc; registers = registers; memory = m }) ≡ Goes d
+    → step (standing_in frames pc registers m input told) ≡ standing_in frames d.pc d.registers d.memory input (told ++ map Happens (event_of i (record { pc = pc; registers = registers; memory = m })))
+goes back frames i pc registers m input told d low high fits word e = went back i d (standing_in frames pc registers m input told) (record { running = refl; low = low; high = high; fits = fits; word = word }) e
 
 first_is : (words input : List ℕ) → machine_after (image_with words) input 0 ≡ standing 4096 start_registers (start_memory (image_with words)) input []
 unfolding start steps
@@ -233,12 +244,17 @@ reads_second back m input s =
     went back (Lw 6 5 0) (record { pc = 4104; registers = set (set start_registers 5 12582912) 6 (word_at m 12582912); memory = m }) (standing 4100 (set start_registers 5 12582912) m input [])
     (at_second (Lw 6 5 0) (set start_registers 5 12582912) m input ((lit< tt, lit< tt), lit< tt, lit< tt) s.1.0) refl
 
-reads_two : ReadsBack → (input : List ℕ) → (machine_after reads_unowned input 2).told ≡ Happens (Access 4100 12582912 4 false 5) ∷ []
+abbrev reads_last : List ℕ → World
+reads_last input =
+    let m = start_memory reads_unowned in
+    standing 4104 (set (set start_registers 5 12582912) 6 (word_at m 12582912)) m input (Happens (Access 4100 12582912 4 false 5) ∷ [])
+
+reads_two : ReadsBack → (input : List ℕ) → machine_after reads_unowned input 2 ≡ reads_last input
 unfolding start steps
 reads_two back input =
     let m = start_memory reads_unowned in
     let s = two_stand 0x00C0_02B7 0x0002_A303 (lit< tt) (lit< tt) in
-    ap (λ (w : World). w.told) (ap step (reads_first back m input s) ∙ reads_second back m input s)
+    ap step (reads_first back m input s) ∙ reads_second back m input s
 
 lies_nowhere : LieIn 12582912 4 [] ⊎ WasFreed 4 [] [] 786432 → ⊥
 lies_nowhere (inl h) = h
@@ -272,27 +288,111 @@ table_refused m size t =
     let one_there = get_or-set_same m 2097152 1 0 (omega (arith, size)) in
     omega (arith, zero_there, one_there)
 
+-- ---- No other clause is broken
+
+-- the image's table stands in the memory of its start
+plain_table : LawsBelow → (words : List ℕ) → 1 ≤ length words → 4 * length words ≤ 2093056 → IsTableOf 4 [] (table_in (start_memory (image_with words)))
+plain_table below words some few = start_table below (image_with words) (plain_image words some few) (All-nil IsByte)
+
+-- a zero that is written over a zero
+zero_set : (m : List ℕ) (at i : ℕ) → at < length m → get_or m i 0 ≡ 0 → get_or (set m at 0) i 0 ≡ 0
+zero_set m at i within is = elim (cases_eq i at) [
+  | inl e ↦ subst (λ (k : ℕ). get_or (set m at 0) k 0 ≡ 0) (sym e) (get_or-set_same m at 0 0 within)
+  | inr ne ↦ get_or-set_other m at i 0 0 ne ∙ is
+]
+
+zeros_written : (m : List ℕ) → length m ≡ 33554432 → IsTableOf 4 [] (table_in m) → IsTableOf 4 [] (table_in (written_at m 2097152 (0 ∷ 0 ∷ 0 ∷ 0 ∷ [])))
+zeros_written m size t =
+    let a = set m 2097152 0 in
+    let b = set a 2097153 0 in
+    let c = set b 2097154 0 in
+    let a_size = length-set m 2097152 0 ∙ size in
+    let b_size = length-set a 2097153 0 ∙ a_size in
+    let c_size = length-set b 2097154 0 ∙ b_size in
+    let d_size = length-set c 2097155 0 ∙ c_size in record {
+      size = table_long (set c 2097155 0) d_size;
+      bytes = λ slot l.
+          let at = 2097152 + slot in
+          let is = sym (table_at m slot l) ∙ t.bytes slot l in
+          table_at (set c 2097155 0) slot l
+          ∙ zero_set c 2097155 at (omega (arith, c_size)) (zero_set b 2097154 at (omega (arith, b_size)) (zero_set a 2097153 at (omega (arith, a_size)) (zero_set m 2097152 at (omega (arith, size)) is)));
+    }
+
+abbrev OtherHold : Clause → Image → World → Type 0
+OtherHold clause image w = (other : Clause) → (other ≡ clause) ⊎ Holds other image w
+
+moves_others : LawsBelow → (input : List ℕ) → OtherHold OnMoves moves_unowned (standing 4100 start_registers (start_memory moves_unowned) input (Happens (Move 4096 0 0) ∷ []))
+moves_others below input OnMoves = inl refl
+moves_others below input OnAccesses = inr (tt, tt)
+moves_others below input OnControl = inr (tt, tt)
+moves_others below input OnTable = inr (plain_table below (0x0062_8033 ∷ []) (lit≤ tt) (lit≤ tt))
+moves_others below input OnReturns = inr refl
+moves_others below input OnTraps = inr tt
+
+reads_others : LawsBelow → (input : List ℕ) → OtherHold OnAccesses reads_unowned (reads_last input)
+reads_others below input OnMoves = inr (tt, tt)
+reads_others below input OnAccesses = inl refl
+reads_others below input OnControl = inr ((λ e. absurd (omega (arith, e)), λ e. absurd (omega (arith, e))), tt)
+reads_others below input OnTable = inr (plain_table below (0x00C0_02B7 ∷ 0x0002_A303 ∷ []) (lit≤ tt) (lit≤ tt))
+reads_others below input OnReturns = inr refl
+reads_others below input OnTraps = inr tt
+
+writes_others : LawsBelow → (input : List ℕ) → OtherHold OnControl writes_table (standing 4100 start_registers (written_at (start_memory writes_table) 2097152 (0 ∷ 0 ∷ 0 ∷ 0 ∷ [])) input (Happens (Access 4096 2097152 4 true 31) ∷ []))
+writes_others below input OnMoves = inr (tt, tt)
+writes_others below input OnAccesses = inr (λ two table. absurd (table refl), tt)
+writes_others below input OnControl = inl refl
+writes_others below input OnTable =
+    let words = 0x000F_A023 ∷ [] in
+    inr (zeros_written (start_memory writes_table) (start_whole writes_table (plain_image words (lit≤ tt) (lit≤ tt)) (All-nil IsByte)).size (plain_table below words (lit≤ tt) (lit≤ tt)))
+writes_others below input OnReturns = inr refl
+writes_others below input OnTraps = inr tt
+
+returns_others : LawsBelow → (input : List ℕ) → OtherHold OnReturns returns_nowhere (standing 0 start_registers (start_memory returns_nowhere) input (Happens (Return 4096 0) ∷ []))
+returns_others below input OnMoves = inr (tt, tt)
+returns_others below input OnAccesses = inr (tt, tt)
+returns_others below input OnControl = inr (tt, tt)
+returns_others below input OnTable = inr (plain_table below (0x0000_8067 ∷ []) (lit≤ tt) (lit≤ tt))
+returns_others below input OnReturns = inl refl
+returns_others below input OnTraps = inr tt
+
+breaks_others : LawsBelow → (input : List ℕ) → OtherHold OnTraps breaks (with_machine (halted (Trapped Break)) (standing 4096 start_registers (start_memory breaks) input []))
+breaks_others below input OnMoves = inr tt
+breaks_others below input OnAccesses = inr tt
+breaks_others below input OnControl = inr tt
+breaks_others below input OnTable = inr (plain_table below (0x0010_0073 ∷ []) (lit≤ tt) (lit≤ tt))
+breaks_others below input OnReturns = inr refl
+breaks_others below input OnTraps = inl refl
+
+unless_same : (clause other : Clause) (image : Image) (w : World) → (other ≡ clause) ⊎ Holds other image w → other ≢ clause → Holds other image w
+unless_same clause other image w (inl same) ne = absurd (ne same)
+unless_same clause other image w (inr holds) ne = holds
+
+breaks_alone : (clause : Clause) (image : Image) (n : ℕ) (last : List ℕ → World) → ((input : List ℕ) → machine_after image input n ≡ last input) → ((input : List ℕ) → Holds clause image (last input) → ⊥) → ((input : List ℕ) → OtherHold clause image (last input)) → BreaksAlone clause image n
+breaks_alone clause image n last run refused others = (
+  λ input h. refused input (subst (Holds clause image) (run input) h),
+  λ input other ne. subst (Holds other image) (sym (run input)) (unless_same clause other image (last input) (others input other) ne),
+)
+
 -- ---- The laws
 
-pub clauses_refuse : ReadsBack → ClausesRefuse
-clauses_refuse back = record {
-  moves = λ input h. moves_refused (subst (λ (w : World). Each (IsMoveSafe 4) [] [] (events_of w.told)) (moves_one back input) h);
-  accesses = λ input h. reads_refused (subst (λ (l : List Tell). Each (IsAccessSafe 4) [] [] (events_of l)) (reads_two back input) h);
-  control = λ input h. writes_refused (subst (λ (w : World). Each IsControlSafe [] [] (events_of w.told)) (writes_one back input) h);
+pub clauses_refuse : ReadsBack → LawsBelow → ClausesRefuse
+clauses_refuse back below = record {
+  moves = breaks_alone OnMoves moves_unowned 1 _ (moves_one back) (λ input. moves_refused) (moves_others below);
+  accesses = breaks_alone OnAccesses reads_unowned 2 reads_last (reads_two back) (λ input. reads_refused) (reads_others below);
+  control = breaks_alone OnControl writes_table 1 _ (writes_one back) (λ input. writes_refused) (writes_others below);
   table = λ input h.
       let long = (start_whole changes_table (plain_image (0x0010_0313 ∷ 0x006F_8023 ∷ []) (lit≤ tt) (lit≤ tt)) (All-nil IsByte)).size in
-      table_refused (start_memory changes_table) long (subst (λ (w : World). IsTableOf 4 (live_of [] (events_of w.told)) (table_in w.machine.core.memory)) (changes_two back input) h);
-  returns = λ input h. returns_refused (subst (λ (w : World). IsSome (open_after [] (events_of w.told))) (returns_one back input) h);
-  traps = λ input h. subst (λ (w : World). IsSafeEnding w.machine.ending) (breaks_one back input) h;
+      table_refused (start_memory changes_table) long (subst (Holds OnTable changes_table) (changes_two back input) h);
+  returns = breaks_alone OnReturns returns_nowhere 1 _ (returns_one back) (λ input. returns_refused) (returns_others below);
+  traps = breaks_alone OnTraps breaks 1 _ (breaks_one back) (λ input h. h) (breaks_others below);
 }
 
-pub unsafe_examples : ReadsBack → UnsafeExamples
-unsafe_examples back =
-    let refuse = clauses_refuse back in record {
-      moves = λ input safe. refuse.moves input (safe 1 (lit≤ tt)).moves;
-      accesses = λ input safe. refuse.accesses input (safe 2 (lit≤ tt)).accesses;
-      control = λ input safe. refuse.control input (safe 1 (lit≤ tt)).control;
-      table = λ input safe. refuse.table input (safe 2 (lit≤ tt)).table;
-      returns = λ input safe. refuse.returns input (safe 1 (lit≤ tt)).returns;
-      traps = λ input safe. refuse.traps input (safe 1 (lit≤ tt)).traps;
-    }
+pub unsafe_examples : ClausesRefuse → UnsafeExamples
+unsafe_examples refuse = record {
+  moves = λ input safe. refuse.moves.0 input (safe 1 (lit≤ tt)).moves;
+  accesses = λ input safe. refuse.accesses.0 input (safe 2 (lit≤ tt)).accesses;
+  control = λ input safe. refuse.control.0 input (safe 1 (lit≤ tt)).control;
+  table = λ input safe. refuse.table input (safe 2 (lit≤ tt)).table;
+  returns = λ input safe. refuse.returns.0 input (safe 1 (lit≤ tt)).returns;
+  traps = λ input safe. refuse.traps.0 input (safe 1 (lit≤ tt)).traps;
+}

@@ -25,3 +25,4 @@ pub mod TableLaws
 pub mod SafeRuns
 pub mod ExampleRuns
 pub mod UsedBlock
+pub mod UsedFrame

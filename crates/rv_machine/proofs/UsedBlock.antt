@@ -1,44 +1,30 @@
 -- The run of an image that uses its block.
-use Rattle.std.proofs.Common.{◌≡◌, ℕ, ◌<◌, ◌≤◌, true, false, List, [], ◌∷◌, ◌++◌, get_or, set, refl, sym, ap, subst, ◌∙◌, inl, inr, arith, lit<, lit≤}
-use Rattle.std.specs.Prelude.{All, IsSome, map}
+use Rattle.std.proofs.Common.{◌≡◌, ℕ, ◌≤◌, true, false, List, [], ◌∷◌, ◌++◌, get_or, set, refl, sym, ap, subst, ◌∙◌, inl, arith, lit<, lit≤}
+use Rattle.std.specs.Prelude.{All, IsSome}
 use Rattle.std.specs.Int.{to_le_bytes, w32}
-use Rattle.std.proofs.lemmas.Bool.{cases_lt}
 use Rattle.std.proofs.lemmas.List.Elements.{All-nil, All-from_recursion}
 use Rattle.bb_watch.specs.declared.event.Event.{Event}
 use Rattle.bb_watch.specs.declared.event.Event.TheVariants.{Move, Access, Call, Return}
-use Rattle.rv_code.specs.Code.{Fits, word_of}
 use Rattle.rv_code.specs.Laws.{ReadsBack}
-use Rattle.rv_code.specs.declared.instr.Instr.{Instr}
 use Rattle.rv_code.specs.declared.instr.Instr.TheVariants.{Lui, Jal, Jalr, Lbu, Sw, Addi, Add}
 use Rattle.rv_image.specs.Rules.{IsImage}
-use Rattle.rv_machine.specs.Changes.{AreOffTable}
 use Rattle.rv_machine.specs.Environment.{World, Tell, Happens, events_of, with_machine, calls, exits}
 use Rattle.rv_machine.specs.Examples.{uses_block, UsesBlock}
 use Rattle.rv_machine.specs.Formed.{IsByte, IsWord}
-use Rattle.rv_machine.specs.Instruction.{Goes, effect, event_of}
 use Rattle.rv_machine.specs.Live.{global_blocks}
 use Rattle.rv_machine.specs.Machine.{step, steps, machine_after}
-use Rattle.rv_machine.specs.Memory.{Stand, word_at, written_at}
+use Rattle.rv_machine.specs.Memory.{Stand, written_at}
 use Rattle.rv_machine.specs.Safety.{IsSafe, IsSafeEnding, SafeRun, Each, IsMoveSafe, IsAccessSafe, IsControlSafe, open_after}
-use Rattle.rv_machine.specs.Start.{start, start_memory, start_registers}
-use Rattle.rv_machine.specs.State.{Core}
+use Rattle.rv_machine.specs.Start.{start, start_frames, start_memory, start_registers}
 use Rattle.rv_machine.proofs.Tables.{written_other}
-use Rattle.rv_machine.proofs.ExampleRuns.{went, asked, standing}
-use Rattle.rv_machine.proofs.TableLaws.{steps_table}
-use Rattle.rv_machine.proofs.SafeRuns.{safe_at_end}
-use Rattle.rv_machine.proofs.Starts.{start_stands, start_formed, start_has_table, stand_same}
-use Rattle.rv_machine.proofs.Steps.{steps_stay}
+use Rattle.rv_machine.proofs.ExampleRuns.{asked, goes, standing}
+use Rattle.rv_machine.proofs.SafeRuns.{safe_ever_after, table_is_kept}
+use Rattle.rv_machine.proofs.Starts.{start_stands, stand_same}
 use Rattle.rv_machine.proofs.TableMemory.{LawsBelow}
 use Rattle.size_table.specs.Blocks.{Block, block_at}
 
 abbrev text : List ℕ
 text = 0x00A0_02B7 ∷ 0x0042_8313 ∷ 0x0062_8033 ∷ 0x0053_2023 ∷ 0x0080_00EF ∷ 0x0000_0073 ∷ 0xFE11_2E23 ∷ 0x000F_C383 ∷ 0x0010_0893 ∷ 0x0000_8067 ∷ []
-
--- one instruction at a place of the text
-goes : ReadsBack → (i : Instr) (pc : ℕ) (registers m input : List ℕ) (told : List Tell) (d : Core) → 4096 ≤ pc → pc < 2097152 → Fits i → word_at m pc ≡ word_of i
-    → effect i (record { pc = pc; registers = registers; memory = m }) ≡ Goes d
-    → step (standing pc registers m input told) ≡ standing d.pc d.registers d.memory input (told ++ map Happens (event_of i (record { pc = pc; registers = registers; memory = m })))
-goes back i pc registers m input told d low high fits word e = went back i d (standing pc registers m input told) (record { running = refl; low = low; high = high; fits = fits; word = word }) e
 
 -- ---- The registers, the memory and what is told, as the run goes on
 
@@ -84,31 +70,31 @@ returned = read ++ Happens (Return 4132 4116) ∷ []
 -- ---- Each instruction
 
 step_1 : ReadsBack → (m input : List ℕ) → Stand m 4096 text → step (standing 4096 start_registers m input []) ≡ standing 4100 set_5 m input []
-step_1 back m input s = goes back (Lui 5 10485760) 4096 start_registers m input [] (record { pc = 4100; registers = set_5; memory = m }) (lit≤ tt) (lit< tt) (lit< tt, refl, lit< tt) s.0 refl
+step_1 back m input s = goes back (start_frames []) (Lui 5 10485760) 4096 start_registers m input [] (record { pc = 4100; registers = set_5; memory = m }) (lit≤ tt) (lit< tt) (lit< tt, refl, lit< tt) s.0 refl
 
 step_2 : ReadsBack → (m input : List ℕ) → Stand m 4096 text → step (standing 4100 set_5 m input []) ≡ standing 4104 set_6 m input []
-step_2 back m input s = goes back (Addi 6 5 4) 4100 set_5 m input [] (record { pc = 4104; registers = set_6; memory = m }) (lit≤ tt) (lit< tt) ((lit< tt, lit< tt), lit< tt, lit< tt) s.1.0 refl
+step_2 back m input s = goes back (start_frames []) (Addi 6 5 4) 4100 set_5 m input [] (record { pc = 4104; registers = set_6; memory = m }) (lit≤ tt) (lit< tt) ((lit< tt, lit< tt), lit< tt, lit< tt) s.1.0 refl
 
 step_3 : ReadsBack → (m input : List ℕ) → Stand m 4096 text → step (standing 4104 set_6 m input []) ≡ standing 4108 set_6 m input moved
-step_3 back m input s = goes back (Add 0 5 6) 4104 set_6 m input [] (record { pc = 4108; registers = set_6; memory = m }) (lit≤ tt) (lit< tt) (lit< tt, lit< tt, lit< tt) s.1.1.0 refl
+step_3 back m input s = goes back (start_frames []) (Add 0 5 6) 4104 set_6 m input [] (record { pc = 4108; registers = set_6; memory = m }) (lit≤ tt) (lit< tt) (lit< tt, lit< tt, lit< tt) s.1.1.0 refl
 
 step_4 : ReadsBack → (m input : List ℕ) → Stand m 4096 text → step (standing 4108 set_6 m input moved) ≡ standing 4112 set_6 (block_written m) input wrote
-step_4 back m input s = goes back (Sw 6 5 0) 4108 set_6 m input moved (record { pc = 4112; registers = set_6; memory = block_written m }) (lit≤ tt) (lit< tt) ((lit< tt, lit< tt), lit< tt, lit< tt) s.1.1.1.0 refl
+step_4 back m input s = goes back (start_frames []) (Sw 6 5 0) 4108 set_6 m input moved (record { pc = 4112; registers = set_6; memory = block_written m }) (lit≤ tt) (lit< tt) ((lit< tt, lit< tt), lit< tt, lit< tt) s.1.1.1.0 refl
 
 step_5 : ReadsBack → (m input : List ℕ) → Stand m 4096 text → step (standing 4112 set_6 m input wrote) ≡ standing 4120 set_1 m input called
-step_5 back m input s = goes back (Jal 1 8) 4112 set_6 m input wrote (record { pc = 4120; registers = set_1; memory = m }) (lit≤ tt) (lit< tt) ((lit< tt, lit< tt), refl, lit< tt) s.1.1.1.1.0 refl
+step_5 back m input s = goes back (start_frames []) (Jal 1 8) 4112 set_6 m input wrote (record { pc = 4120; registers = set_1; memory = m }) (lit≤ tt) (lit< tt) ((lit< tt, lit< tt), refl, lit< tt) s.1.1.1.1.0 refl
 
 step_6 : ReadsBack → (m input : List ℕ) → Stand m 4096 text → step (standing 4120 set_1 m input called) ≡ standing 4124 set_1 (stack_written m) input stored
-step_6 back m input s = goes back (Sw 2 1 4294967292) 4120 set_1 m input called (record { pc = 4124; registers = set_1; memory = stack_written m }) (lit≤ tt) (lit< tt) ((lit< tt, lit< tt), lit< tt, lit< tt) s.1.1.1.1.1.1.0 refl
+step_6 back m input s = goes back (start_frames []) (Sw 2 1 4294967292) 4120 set_1 m input called (record { pc = 4124; registers = set_1; memory = stack_written m }) (lit≤ tt) (lit< tt) ((lit< tt, lit< tt), lit< tt, lit< tt) s.1.1.1.1.1.1.0 refl
 
 step_7 : ReadsBack → (m input : List ℕ) → Stand m 4096 text → step (standing 4124 set_1 m input stored) ≡ standing 4128 (set_7 m) m input read
-step_7 back m input s = goes back (Lbu 7 31 0) 4124 set_1 m input stored (record { pc = 4128; registers = set_7 m; memory = m }) (lit≤ tt) (lit< tt) ((lit< tt, lit< tt), lit< tt, lit< tt) s.1.1.1.1.1.1.1.0 refl
+step_7 back m input s = goes back (start_frames []) (Lbu 7 31 0) 4124 set_1 m input stored (record { pc = 4128; registers = set_7 m; memory = m }) (lit≤ tt) (lit< tt) ((lit< tt, lit< tt), lit< tt, lit< tt) s.1.1.1.1.1.1.1.0 refl
 
 step_8 : ReadsBack → (m input : List ℕ) → Stand m 4096 text → step (standing 4128 (set_7 m) m input read) ≡ standing 4132 (set_17 m) m input read
-step_8 back m input s = goes back (Addi 17 0 1) 4128 (set_7 m) m input read (record { pc = 4132; registers = set_17 m; memory = m }) (lit≤ tt) (lit< tt) ((lit< tt, lit< tt), lit< tt, lit< tt) s.1.1.1.1.1.1.1.1.0 refl
+step_8 back m input s = goes back (start_frames []) (Addi 17 0 1) 4128 (set_7 m) m input read (record { pc = 4132; registers = set_17 m; memory = m }) (lit≤ tt) (lit< tt) ((lit< tt, lit< tt), lit< tt, lit< tt) s.1.1.1.1.1.1.1.1.0 refl
 
 step_9 : ReadsBack → (m input : List ℕ) → Stand m 4096 text → step (standing 4132 (set_17 m) m input read) ≡ standing 4116 (set_17 m) m input returned
-step_9 back m input s = goes back (Jalr 0 1 0) 4132 (set_17 m) m input read (record { pc = 4116; registers = set_17 m; memory = m }) (lit≤ tt) (lit< tt) ((lit< tt, lit< tt), lit< tt, lit< tt) s.1.1.1.1.1.1.1.1.1.0 refl
+step_9 back m input s = goes back (start_frames []) (Jalr 0 1 0) 4132 (set_17 m) m input read (record { pc = 4116; registers = set_17 m; memory = m }) (lit≤ tt) (lit< tt) ((lit< tt, lit< tt), lit< tt, lit< tt) s.1.1.1.1.1.1.1.1.1.0 refl
 
 abbrev exited : List ℕ → List ℕ → World
 exited m input = with_machine exits (standing 4116 (set_17 m) m input returned)
@@ -198,32 +184,21 @@ control_safe = (
   ),
 )
 
-off_table : AreOffTable told
-off_table = (tt, (inr (lit≤ tt), (tt, (inr (lit≤ tt), (tt, (tt, tt))))))
-
 end_safe : ReadsBack → LawsBelow → (input : List ℕ) → All IsByte input → IsSafe 4 (global_blocks uses_block) (machine_after uses_block input 10)
 end_safe back below input bytes =
     let used = block_is_used back input in
     let events = sym used.events in
-    let w : World = record { machine = start uses_block; left = input; told = [] } in
-    let initial = All-nil IsByte in record {
+    let accesses_end = subst (Each (IsAccessSafe 4) block block) events accesses_safe in
+    let control_end = subst (Each IsControlSafe block block) events control_safe in record {
       moves = subst (Each (IsMoveSafe 4) block block) events moves_safe;
-      accesses = subst (Each (IsAccessSafe 4) block block) events accesses_safe;
-      control = subst (Each IsControlSafe block block) events control_safe;
-      table = steps_table 10 below uses_block w is_image (start_formed uses_block input is_image initial bytes) (start_has_table below uses_block input is_image initial) (subst AreOffTable events off_table);
+      accesses = accesses_end;
+      control = control_end;
+      table = table_is_kept below uses_block input 10 is_image (All-nil IsByte) bytes accesses_end control_end;
       returns = subst (λ (l : List Event). IsSome (open_after [] l)) events refl;
       traps = subst IsSafeEnding (sym used.ending) tt;
     }
 
-run_safe : ReadsBack → LawsBelow → (input : List ℕ) → All IsByte input → SafeRun 4 uses_block input 10
-run_safe back below input bytes =
-    safe_at_end below uses_block input 10 is_image (All-nil IsByte) bytes (subst AreOffTable (sym (block_is_used back input).events) off_table) (end_safe back below input bytes)
-
 pub block_is_used_safely : ReadsBack → LawsBelow → (input : List ℕ) (n : ℕ) → All IsByte input → SafeRun 4 uses_block input n
-block_is_used_safely back below input n bytes k le = elim (cases_lt k 10) [
-  | inl early ↦ run_safe back below input bytes k (omega (arith, early))
-  | inr late ↦
-      let ended = subst IsSome (sym (block_is_used back input).ending) refl in
-      let stays = steps_stay k 10 (record { machine = start uses_block; left = input; told = [] }) ended late in
-      subst (IsSafe 4 (global_blocks uses_block)) (sym stays) (end_safe back below input bytes)
-]
+block_is_used_safely back below input n bytes =
+    let ended = subst IsSome (sym (block_is_used back input).ending) refl in
+    safe_ever_after below uses_block input 10 n is_image (All-nil IsByte) bytes ended (end_safe back below input bytes)

@@ -13,7 +13,7 @@ use Rattle.rv_machine.specs.Instruction.{Act, Goes, Traps, Asks, core_step, core
 use Rattle.rv_machine.specs.Live.{global_blocks}
 use Rattle.rv_machine.specs.Machine.{step, steps, machine_after}
 use Rattle.rv_machine.specs.Memory.{word_at, written_at, bytes_of_words, Stand}
-use Rattle.rv_machine.specs.Safety.{IsSafe, SafeRun, table_in}
+use Rattle.rv_machine.specs.Safety.{Each, IsAccessSafe, IsControlSafe, IsSafe, SafeRun, table_in}
 use Rattle.rv_machine.specs.Start.{start_memory}
 use Rattle.rv_machine.specs.State.{Core, State, register_of}
 use Rattle.size_table.specs.Table.{IsTableOf}
@@ -116,6 +116,11 @@ TableFollows = (image : Image) (w : World) → IsImage image → IsFormed image 
 abbrev pub RunsHaveTable : Type 0
 RunsHaveTable = (image : Image) (input : List ℕ) (n : ℕ) → IsImage image → All IsByte image.initial → All IsByte input → AreOffTable (events_of (machine_after image input n).told) → IsTableOf 4 (live_in image (machine_after image input n)) (table_in (machine_after image input n).machine.core.memory)
 
--- a run that writes nothing to the size table itself is safe if it is safe at its end
+-- A run whose accesses are safe, and that keeps control, has the table that it should: of the clauses of safety, the one
+-- on the table follows from these two.
+abbrev pub TableIsKept : Type 0
+TableIsKept = (image : Image) (input : List ℕ) (n : ℕ) → IsImage image → All IsByte image.initial → All IsByte input → Each (IsAccessSafe 4) (global_blocks image) (global_blocks image) (events_of (machine_after image input n).told) → Each IsControlSafe (global_blocks image) (global_blocks image) (events_of (machine_after image input n).told) → IsTableOf 4 (live_in image (machine_after image input n)) (table_in (machine_after image input n).machine.core.memory)
+
+-- a run that is safe at its end is safe
 abbrev pub SafeAtEnd : Type 0
-SafeAtEnd = (image : Image) (input : List ℕ) (n : ℕ) → IsImage image → All IsByte image.initial → All IsByte input → AreOffTable (events_of (machine_after image input n).told) → IsSafe 4 (global_blocks image) (machine_after image input n) → SafeRun 4 image input n
+SafeAtEnd = (image : Image) (input : List ℕ) (n : ℕ) → IsImage image → All IsByte image.initial → All IsByte input → IsSafe 4 (global_blocks image) (machine_after image input n) → SafeRun 4 image input n

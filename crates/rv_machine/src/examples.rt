@@ -1,5 +1,5 @@
 //! Runs that are safe, and runs that are not: what the definition of safety takes and what it refuses.
-ghost use Rattle.rv_machine.specs.Examples.{ExampleIsSafe, ExampleExits, BlockIsUsedSafely, BlockIsUsed, ClausesRefuse, UnsafeExamples};
+ghost use Rattle.rv_machine.specs.Examples.{ExampleIsSafe, ExampleExits, BlockIsUsedSafely, BlockIsUsed, FrameIsUsedSafely, FrameIsUsed, ClausesRefuse, UnsafeExamples};
 
 /// A run can be safe: that of an image that only exits is, however long.
 pub fn example_is_safe()
@@ -37,16 +37,41 @@ pub fn block_is_used()
     rv_code::laws::reads_back();
 }
 
-/// Each clause of safety refuses a run that breaks what the clause is for.
+/// A run with a block that is made and ended can be safe too, also where it then reads from where the block was.
+pub fn frame_is_used_safely()
+    ensures { FrameIsUsedSafely }
+{
+    rv_code::laws::reads_back();
+    rv_code::laws::reads_only();
+    size_table::laws::block_is_marked();
+    size_table::laws::marking_adds();
+    size_table::laws::marking_removes();
+    crate::laws::text_stands();
+}
+
+/// That run tells these things.
+pub fn frame_is_used()
+    ensures { FrameIsUsed }
+{
+    rv_code::laws::reads_back();
+    crate::laws::text_stands();
+}
+
+/// Each clause of safety refuses a run that no other clause refuses, but for the one on the size table, which follows from
+/// those on accesses and control.
 pub fn clauses_refuse()
     ensures { ClausesRefuse }
 {
     rv_code::laws::reads_back();
+    size_table::laws::block_is_marked();
+    size_table::laws::marking_adds();
+    size_table::laws::marking_removes();
+    rv_code::laws::reads_only();
 }
 
 /// So each of these runs is not safe.
 pub fn unsafe_examples()
     ensures { UnsafeExamples }
 {
-    rv_code::laws::reads_back();
+    clauses_refuse();
 }

@@ -1,5 +1,5 @@
 //! The laws of the machine, for what stands on it.
-ghost use Rattle.rv_machine.specs.Laws.{EndingStays, StepTells, ToldGrows, FieldsFit, InstructionDone, WordReadBack, OthersStay, WordsStand, StepsAdd, CoreStays, FormStays, RunsAreFormed, LiveAreLaidOut, OnlyToldChange, MadeIsZero, TextStays, TextStands, TableFollows, RunsHaveTable, SafeAtEnd};
+ghost use Rattle.rv_machine.specs.Laws.{EndingStays, StepTells, ToldGrows, FieldsFit, InstructionDone, WordReadBack, OthersStay, WordsStand, StepsAdd, CoreStays, FormStays, RunsAreFormed, LiveAreLaidOut, OnlyToldChange, MadeIsZero, TextStays, TextStands, TableFollows, RunsHaveTable, TableIsKept, SafeAtEnd};
 
 /// A machine that has ended stays as it is.
 pub fn ending_stays()
@@ -122,7 +122,17 @@ pub fn runs_have_table()
     size_table::laws::marking_removes();
 }
 
-/// A run that writes nothing to the size table itself is safe if it is safe at its end.
+/// A run whose accesses are safe, and that keeps control, has the size table of the live blocks.
+pub fn table_is_kept()
+    ensures { TableIsKept }
+{
+    rv_code::laws::reads_only();
+    size_table::laws::block_is_marked();
+    size_table::laws::marking_adds();
+    size_table::laws::marking_removes();
+}
+
+/// A run that is safe at its end is safe.
 pub fn safe_at_end()
     ensures { SafeAtEnd }
 {

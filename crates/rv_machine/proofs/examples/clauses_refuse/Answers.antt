@@ -2,4 +2,9 @@ use Rattle.rv_machine.proofs.ExampleRuns.{clauses_refuse}
 use Rattle.rv_machine.proofs.examples.clauses_refuse.Goals as goal
 
 pub returns : goal.returns
-returns c = clauses_refuse c.reads_back.ensures
+returns c = clauses_refuse c.reads_back.ensures (record {
+  reads = c.reads_only.ensures;
+  marked = c.block_is_marked.ensures;
+  adds = c.marking_adds.ensures;
+  removes = c.marking_removes.ensures;
+})
