@@ -1,5 +1,7 @@
-//! The standard streams as a source and as sinks. They tell nothing of their content.
-ghost use Rattle.std.specs.Prelude.{None, IfSome, ◌<◌, ◌≤◌, length};
+//! The standard streams as a source and as sinks. They tell what their reader and writer tell, and the standard streams
+//! tell nothing.
+ghost use Rattle.std.specs.Prelude.{◌≡◌, Some, [], IfSome, if◌then◌else◌};
+ghost use Rattle.std.proofs.Common.{refl, sym, subst};
 
 use bb_outside::{Sink, SinkFailed, Source, SourceFailed};
 use std::io::{Read, Write};
@@ -24,13 +26,13 @@ impl<R: Read> StdinSource<R> {
 }
 
 impl<R: Read> Source for StdinSource<R> {
-    ghost left = { λ _. None };
+    ghost left = { λ source. if source.is_over then Some [] else R.remaining source.input };
 
     ghost is_over = { λ source. source.is_over };
 
     ghost faults = { λ source. source.faults };
 
-    ghost none_left = { λ _ _. tt };
+    ghost none_left = { λ source over. subst (λ is_over. IfSome (if is_over then Some [] else R.remaining source.input) (λ bytes. bytes ≡ [])) (sym over) refl };
 
     fn take(&mut self) -> Result<Option<u8>, SourceFailed> {
         if self.is_over {
@@ -51,7 +53,7 @@ impl<R: Read> Source for StdinSource<R> {
     }
 }
 
-/// Standard output, or another writer, as a sink. Each piece is flushed at once.
+/// Standard output, or another writer without a buffer, as a sink.
 #[derive(Drop)]
 pub struct StdoutSink<W: Write> {
     output: W,
@@ -66,7 +68,7 @@ impl<W: Write> StdoutSink<W> {
 }
 
 impl<W: Write> Sink for StdoutSink<W> {
-    ghost written = { λ _. None };
+    ghost written = { λ sink. W.contents sink.output };
 
     ghost faults = { λ sink. sink.faults };
 
@@ -74,28 +76,18 @@ impl<W: Write> Sink for StdoutSink<W> {
         if piece.is_empty() {
             return Ok(0);
         }
-        match write_now(&mut self.output, piece) {
-            Some(count) => Ok(count),
-            None => {
+        match self.output.write(piece) {
+            Ok(0) | Err(_) => {
                 self.faults = self.faults.saturating_add(1);
                 Err(SinkFailed)
             }
+            Ok(count) => Ok(count),
         }
     }
 }
 
 /// Standard error as a sink.
 pub type StderrSink<W> = StdoutSink<W>;
-
-// Writes first bytes of the piece and flushes; how many, or none where none was written or the flush failed.
-fn write_now<W: Write>(output: &mut W, piece: &[u8]) -> Option<usize>
-    ensures { IfSome result (λ count. (0 < count) × (count ≤ length piece.now)) }
-{
-    match output.write(piece) {
-        Ok(0) | Err(_) => None,
-        Ok(count) => output.flush().ok().map(|()| count),
-    }
-}
 
 #[cfg(test)]
 mod tests {
