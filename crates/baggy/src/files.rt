@@ -1,6 +1,8 @@
 //! The files of the system as a shelf. It tells nothing of their content.
 ghost use Rattle.bb_outside.specs.Files.{Untold};
-ghost use Rattle.std.specs.Prelude.{IfOk, ◌≤◌, length};
+ghost use Rattle.std.specs.Prelude.{IfOk, ◌≡◌, ◌≤◌, length};
+ghost use Rattle.std.specs.IoError.{error_kind};
+ghost use Rattle.baggy.specs.Failures.{failed_of};
 
 use bb_outside::{Shelf, ShelfFailed};
 use std::fs;
@@ -18,7 +20,10 @@ pub struct DirShelf<'a, R: Files> {
 
 impl<'a, R: Files> DirShelf<'a, R> {
     /// The files of this runtime.
-    pub fn new(rt: &'a R) -> DirShelf<'a, R> {
+    pub fn new(rt: &'a R) -> DirShelf<'a, R>
+        ensures faults { ⟦<DirShelf<'a, R> as Shelf>⟧.faults result ≡ 0 }
+        ensures misses { ⟦<DirShelf<'a, R> as Shelf>⟧.misses result ≡ 0 }
+    {
         DirShelf {
             rt,
             faults: 0,
@@ -69,6 +74,8 @@ enum FileFailed {
 }
 
 impl From<io::Error> for FileFailed {
+    ghost from_gives = { λ e failed. failed ≡ failed_of (error_kind e) };
+
     fn from(e: io::Error) -> Self {
         match e.kind() {
             ErrorKind::NotFound => FileFailed::Missing,

@@ -1,6 +1,6 @@
 //! The standard streams as a source and as sinks. They tell what their reader and writer tell, and the standard streams
 //! tell nothing.
-ghost use Rattle.std.specs.Prelude.{◌≡◌, Some, [], IfSome, if◌then◌else◌};
+ghost use Rattle.std.specs.Prelude.{◌≡◌, false, Some, [], IfSome, if◌then◌else◌};
 ghost use Rattle.std.proofs.Common.{refl, sym, subst};
 
 use bb_outside::{Sink, SinkFailed, Source, SourceFailed};
@@ -16,7 +16,11 @@ pub struct StdinSource<R: Read> {
 
 impl<R: Read> StdinSource<R> {
     /// A source of what is read.
-    pub fn new(input: R) -> StdinSource<R> {
+    pub fn new(input: R) -> StdinSource<R>
+        ensures left { ⟦<StdinSource<R> as Source>⟧.left result ≡ R.remaining input }
+        ensures over { ⟦<StdinSource<R> as Source>⟧.is_over result ≡ false }
+        ensures faults { ⟦<StdinSource<R> as Source>⟧.faults result ≡ 0 }
+    {
         StdinSource {
             input,
             is_over: false,
@@ -62,7 +66,10 @@ pub struct StdoutSink<W: Write> {
 
 impl<W: Write> StdoutSink<W> {
     /// A sink that writes there.
-    pub fn new(output: W) -> StdoutSink<W> {
+    pub fn new(output: W) -> StdoutSink<W>
+        ensures written { ⟦<StdoutSink<W> as Sink>⟧.written result ≡ W.contents output }
+        ensures faults { ⟦<StdoutSink<W> as Sink>⟧.faults result ≡ 0 }
+    {
         StdoutSink { output, faults: 0 }
     }
 }
