@@ -1,8 +1,8 @@
 -- How what the code returns is read by functions of the bytes.
 use Rattle.std.specs.Prelude.{◌≡◌, ℕ, List, length, Option, Some, None, option_map, Result, Ok, Err}
-use Rattle.c_tree.specs.declared.words.Punctuator.{Punctuator}
-use Rattle.c_tree.specs.declared.words.Reserved.{Reserved}
-use Rattle.c_tree.specs.Tokens.{Token}
+use Rattle.c_words.specs.declared.words.Punctuator.{Punctuator}
+use Rattle.c_words.specs.declared.words.Reserved.{Reserved}
+use Rattle.c_words.specs.Tokens.{Token}
 use Rattle.c_lexer.specs.declared.fault.Fault.{Fault}
 use Rattle.c_lexer.specs.declared.fault.PieceError.{PieceError}
 use Rattle.c_lexer.specs.declared.fault.PieceError.TheVariants as errors

@@ -1,9 +1,9 @@
 -- What the text is made of: tokens, and the blanks, comments and directives between them (C11 6.4).
 -- The bytes that are written as numbers: a line feed is 10, `"` 34, `#` 35, `'` 39, `*` 42, `/` 47, a backslash 92, `x` 120.
 use Rattle.std.specs.Prelude.{◌≡◌, ◌≢◌, ◌⊎◌, ℕ, not, ◌<◌, ◌≤◌, Bool, true, false, ◌||◌, ◌&&◌, ◌==◌, List, [], ◌∷◌, ◌++◌, length, Option, Some, None, codes}
-use Rattle.c_tree.specs.declared.words.Punctuator.{Punctuator}
-use Rattle.c_tree.specs.declared.words.Reserved.{Reserved}
-use Rattle.c_tree.specs.Tokens.{Token}
+use Rattle.c_words.specs.declared.words.Punctuator.{Punctuator}
+use Rattle.c_words.specs.declared.words.Reserved.{Reserved}
+use Rattle.c_words.specs.Tokens.{Token}
 use Rattle.c_lexer.specs.declared.fault.Fault.{Fault}
 use Rattle.c_lexer.specs.declared.fault.Fault.TheVariants as faults
 use Rattle.c_lexer.specs.Bytes.{is_blank, is_gap, is_letter, is_digit, is_word, continues_number, is_digit_of, IsRun, IsRunOf}

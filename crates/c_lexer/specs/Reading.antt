@@ -1,8 +1,8 @@
 -- What the front of a text reads as, by functions of the bytes.
 use Rattle.std.specs.Prelude.{ℕ, zero, suc, ◌+◌, ◌-◌, ◌*◌, ◌^◌, Bool, not, ◌&&◌, ◌||◌, if◌then◌else◌, ◌==◌, nat_lt, nat_le, List, [], ◌∷◌, length, take, drop, slice_index, Option, Some, None, Result, Ok, Err, codes, bytes_eq}
-use Rattle.c_tree.specs.declared.words.Punctuator.{Punctuator}
-use Rattle.c_tree.specs.declared.words.Reserved.{Reserved}
-use Rattle.c_tree.specs.Tokens.{Token}
+use Rattle.c_words.specs.declared.words.Punctuator.{Punctuator}
+use Rattle.c_words.specs.declared.words.Reserved.{Reserved}
+use Rattle.c_words.specs.Tokens.{Token}
 use Rattle.c_lexer.specs.declared.bytes.Class.{Class}
 use Rattle.c_lexer.specs.declared.bytes.Class.TheVariants as class
 use Rattle.c_lexer.specs.declared.fault.Fault.{Fault}

@@ -1,6 +1,6 @@
 -- What a contract sees of tokens.
 use Rattle.std.specs.Prelude.{◌≡◌, ℕ, ◌+◌, List, [], ◌∷◌, map, Result, Ok, Err}
-use Rattle.c_tree.specs.Tokens.{Token, Placed}
+use Rattle.c_words.specs.Tokens.{Token, Placed}
 use Rattle.c_lexer.specs.declared.token.TokenKind.{TokenKind}
 use Rattle.c_lexer.specs.declared.token.TokenKind.TheVariants as kinds
 use Rattle.c_lexer.specs.declared.token.Token as rust

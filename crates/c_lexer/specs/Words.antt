@@ -1,9 +1,9 @@
 -- The spellings of the reserved words and of the punctuators.
 use Rattle.std.specs.Prelude.{ℕ, List, [], ◌∷◌, codes}
-use Rattle.c_tree.specs.declared.words.Reserved.{Reserved}
-use Rattle.c_tree.specs.declared.words.Reserved.TheVariants as words
-use Rattle.c_tree.specs.declared.words.Punctuator.{Punctuator}
-use Rattle.c_tree.specs.declared.words.Punctuator.TheVariants as marks
+use Rattle.c_words.specs.declared.words.Reserved.{Reserved}
+use Rattle.c_words.specs.declared.words.Reserved.TheVariants as words
+use Rattle.c_words.specs.declared.words.Punctuator.{Punctuator}
+use Rattle.c_words.specs.declared.words.Punctuator.TheVariants as marks
 
 -- the keywords (C11 6.4.1), and `NULL` and `EOF`
 unfoldable pub reserved_words : List (List ℕ × Reserved)

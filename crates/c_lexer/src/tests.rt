@@ -1,5 +1,5 @@
 use super::*;
-use c_tree::words::{Punctuator, Reserved};
+use c_words::words::{Punctuator, Reserved};
 use std::test::Fail;
 
 /// A token without the memory that it owns.

@@ -1,7 +1,7 @@
 //! Tokens, each with its place in the text.
 use bb_words::list::List;
-use c_tree::place::{At, Bytes, Name};
-use c_tree::words::{Punctuator, Reserved};
+use c_words::place::{At, Bytes, Name};
+use c_words::words::{Punctuator, Reserved};
 
 /// A token with its value (C11 6.4).
 #[derive(Debug, Drop)]

@@ -8,7 +8,7 @@ ghost use Rattle.c_lexer.specs.Views.{token_of};
 use crate::fault::Fault;
 use crate::token::TokenKind;
 use bb_words::list::List;
-use c_tree::words::{Punctuator, Reserved};
+use c_words::words::{Punctuator, Reserved};
 use std::alloc::{AllocError, Global};
 
 /// The reserved words: the keywords (C11 6.4.1), and `NULL` and `EOF`.

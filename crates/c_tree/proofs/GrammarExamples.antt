@@ -1,10 +1,10 @@
 -- Derivations of small texts, and why some have none.
 use Rattle.std.proofs.Common.{◌≡◌, ℕ, zero, suc, ◌≤◌, Bool, true, false, List, [], ◌∷◌, ◌++◌, refl, lit≤, arith, ◌⊎◌, inl, inr}
-use Rattle.c_tree.specs.declared.place.At.{At}
-use Rattle.c_tree.specs.declared.words.Punctuator.TheVariants as m
-use Rattle.c_tree.specs.declared.words.Reserved.TheVariants as w
+use Rattle.c_words.specs.declared.place.At.{At}
+use Rattle.c_words.specs.declared.words.Punctuator.TheVariants as m
+use Rattle.c_words.specs.declared.words.Reserved.TheVariants as w
 use Rattle.c_tree.specs.declared.syntax.specifiers.Specifier.{Specifier}
-use Rattle.c_tree.specs.Tokens.{Token, Placed}
+use Rattle.c_words.specs.Tokens.{Token, Placed}
 use Rattle.c_tree.specs.Syntax.{ExpressionTree, ExpressionTrees, TypeNameTree, TypeDeclaratorTree, StatementTree, HeadTree, ExternalTree, UnitTree}
 use Rattle.c_tree.specs.GrammarLimits.{Limits, within_limits, without_limits}
 use Rattle.c_tree.specs.GrammarTokens.{word, identifier, Optional, Many, Commas}

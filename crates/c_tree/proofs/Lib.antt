@@ -1,6 +1,2 @@
-pub mod TypesCases
-pub mod TypedLemmas
-pub mod TypedPrograms
-pub mod TypedViewed
 pub mod GrammarExamples
 pub mod SyntaxViews

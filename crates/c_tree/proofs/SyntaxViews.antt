@@ -2,11 +2,11 @@
 use Rattle.std.proofs.Common.{◌≡◌, ℕ, rules, Vec, Global, Bool}
 use Rattle.std.specs.Prelude.{Box, List, map, Option, Some, None}
 use Rattle.std.specs.Option.{option_map}
-use Rattle.c_tree.specs.declared.place.At.{At}
-use Rattle.c_tree.specs.declared.operators.UnaryOperator.{UnaryOperator}
-use Rattle.c_tree.specs.declared.operators.StepOperator.{StepOperator}
-use Rattle.c_tree.specs.declared.operators.BinaryOperator.{BinaryOperator}
-use Rattle.c_tree.specs.declared.operators.AssignOperator.{AssignOperator}
+use Rattle.c_words.specs.declared.place.At.{At}
+use Rattle.c_words.specs.declared.operators.UnaryOperator.{UnaryOperator}
+use Rattle.c_words.specs.declared.operators.StepOperator.{StepOperator}
+use Rattle.c_words.specs.declared.operators.BinaryOperator.{BinaryOperator}
+use Rattle.c_words.specs.declared.operators.AssignOperator.{AssignOperator}
 use Rattle.c_tree.specs.declared.syntax.expressions.Expression.{Expression, the_lemmas as expression_lemmas}
 use Rattle.c_tree.specs.declared.syntax.expressions.Expression.TheVariants as e
 use Rattle.c_tree.specs.declared.syntax.expressions.TypeName.{TypeName, out-TypeName}

@@ -1,9 +1,9 @@
 -- The grammar: which tokens derive which tree of a file.
 use Rattle.std.specs.Prelude.{List, [], ◌∷◌, ◌++◌}
-use Rattle.c_tree.specs.declared.place.At.{At}
-use Rattle.c_tree.specs.declared.words.Punctuator.TheVariants as m
+use Rattle.c_words.specs.declared.place.At.{At}
+use Rattle.c_words.specs.declared.words.Punctuator.TheVariants as m
 use Rattle.c_tree.specs.declared.syntax.specifiers.Specifier.{Specifier}
-use Rattle.c_tree.specs.Tokens.{Placed}
+use Rattle.c_words.specs.Tokens.{Placed}
 use Rattle.c_tree.specs.Syntax.{DeclaratorTree, InitDeclaratorTree, StructDefinitionTree, BlockTree, HeadTree, ExternalTree, UnitTree}
 use Rattle.c_tree.specs.GrammarLimits.{Limits}
 use Rattle.c_tree.specs.GrammarTokens.{mark, first_at, Many, Commas}

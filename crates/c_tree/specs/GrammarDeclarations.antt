@@ -1,10 +1,10 @@
 -- The grammar's rules for declarations.
 use Rattle.std.specs.Prelude.{◌≡◌, ℕ, Bool, true, false, List, [], ◌∷◌, ◌++◌, Option, Some, None}
-use Rattle.c_tree.specs.declared.place.At.{At}
-use Rattle.c_tree.specs.declared.words.Reserved.TheVariants as w
-use Rattle.c_tree.specs.declared.words.Punctuator.TheVariants as m
+use Rattle.c_words.specs.declared.place.At.{At}
+use Rattle.c_words.specs.declared.words.Reserved.TheVariants as w
+use Rattle.c_words.specs.declared.words.Punctuator.TheVariants as m
 use Rattle.c_tree.specs.declared.syntax.specifiers.Specifier.{Specifier}
-use Rattle.c_tree.specs.Tokens.{Token, Placed}
+use Rattle.c_words.specs.Tokens.{Token, Placed}
 use Rattle.c_tree.specs.Syntax.{ExpressionTree, ArrayTree, ParameterDeclaratorTree, ParameterTree, ParametersTree, SuffixTree, DeclaratorTree, InitializerTree, InitializerTrees, InitDeclaratorTree, DeclarationTree, MemberDeclarationTree, StructDefinitionTree}
 use Rattle.c_tree.specs.GrammarLimits.{Limits}
 use Rattle.c_tree.specs.GrammarTokens.{mark, word, identifier, Optional, Many, Commas}

@@ -1,14 +1,14 @@
 -- Small texts, and what the grammar makes of them within the limits. A token stands at its number, on line 1.
 use Rattle.std.specs.Prelude.{◌≡◌, ℕ, zero, suc, ◌<◌, Bool, false, true, List, [], ◌∷◌, ◌++◌, Some, None}
-use Rattle.c_tree.specs.declared.place.At.{At}
-use Rattle.c_tree.specs.declared.words.Reserved.TheVariants as w
-use Rattle.c_tree.specs.declared.words.Punctuator.TheVariants as m
-use Rattle.c_tree.specs.declared.operators.StepOperator.TheVariants as step
-use Rattle.c_tree.specs.declared.operators.UnaryOperator.TheVariants as unary
-use Rattle.c_tree.specs.declared.operators.BinaryOperator.TheVariants as op
-use Rattle.c_tree.specs.declared.operators.AssignOperator.TheVariants as assign
+use Rattle.c_words.specs.declared.place.At.{At}
+use Rattle.c_words.specs.declared.words.Reserved.TheVariants as w
+use Rattle.c_words.specs.declared.words.Punctuator.TheVariants as m
+use Rattle.c_words.specs.declared.operators.StepOperator.TheVariants as step
+use Rattle.c_words.specs.declared.operators.UnaryOperator.TheVariants as unary
+use Rattle.c_words.specs.declared.operators.BinaryOperator.TheVariants as op
+use Rattle.c_words.specs.declared.operators.AssignOperator.TheVariants as assign
 use Rattle.c_tree.specs.declared.syntax.specifiers.Specifier.TheVariants as s
-use Rattle.c_tree.specs.Tokens.{Token, Placed}
+use Rattle.c_words.specs.Tokens.{Token, Placed}
 use Rattle.c_tree.specs.Syntax.{ExpressionTree, ExpressionTrees, TypeNameTree, TypeDeclaratorTree, ParameterDeclaratorTree, ParametersTree, SuffixTree, DeclaratorTree, InitializerTree, InitializerTrees, ForStartTree, StatementTree, BlockTree, BlockItemTree, BlockItemTrees, HeadTree, ExternalTree, UnitTree}
 use Rattle.c_tree.specs.SyntaxHeights.{height}
 use Rattle.c_tree.specs.GrammarLimits.{within_limits, without_limits}

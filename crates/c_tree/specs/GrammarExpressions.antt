@@ -1,16 +1,16 @@
 -- The grammar's rules for expressions: which tokens, all of them, derive which tree.
 use Rattle.std.specs.Prelude.{◌≡◌, ℕ, zero, suc, Bool, List, [], ◌∷◌, ◌++◌, Some}
-use Rattle.c_tree.specs.declared.place.At.{At}
-use Rattle.c_tree.specs.declared.words.Reserved.TheVariants as w
-use Rattle.c_tree.specs.declared.words.Punctuator.{Punctuator}
-use Rattle.c_tree.specs.declared.words.Punctuator.TheVariants as m
-use Rattle.c_tree.specs.declared.operators.UnaryOperator.{UnaryOperator}
-use Rattle.c_tree.specs.declared.operators.StepOperator.{StepOperator}
-use Rattle.c_tree.specs.declared.operators.BinaryOperator.{BinaryOperator}
-use Rattle.c_tree.specs.declared.operators.AssignOperator.{AssignOperator}
+use Rattle.c_words.specs.declared.place.At.{At}
+use Rattle.c_words.specs.declared.words.Reserved.TheVariants as w
+use Rattle.c_words.specs.declared.words.Punctuator.{Punctuator}
+use Rattle.c_words.specs.declared.words.Punctuator.TheVariants as m
+use Rattle.c_words.specs.declared.operators.UnaryOperator.{UnaryOperator}
+use Rattle.c_words.specs.declared.operators.StepOperator.{StepOperator}
+use Rattle.c_words.specs.declared.operators.BinaryOperator.{BinaryOperator}
+use Rattle.c_words.specs.declared.operators.AssignOperator.{AssignOperator}
 use Rattle.c_tree.specs.declared.syntax.specifiers.Specifier.{Specifier}
 use Rattle.c_tree.specs.declared.syntax.specifiers.Specifier.TheVariants as s
-use Rattle.c_tree.specs.Tokens.{Token, Placed}
+use Rattle.c_words.specs.Tokens.{Token, Placed}
 use Rattle.c_tree.specs.Syntax.{ExpressionTree, ExpressionTrees, TypeNameTree, TypeDeclaratorTree}
 use Rattle.c_tree.specs.GrammarLimits.{Limits}
 use Rattle.c_tree.specs.GrammarTokens.{mark, word, identifier, AreStrings, unary_operator, step_operator, binary_operator, weakest, assign_operator}

@@ -1,9 +1,9 @@
 -- The grammar's rules for statements.
 use Rattle.std.specs.Prelude.{Bool, true, false, List, [], ◌∷◌, ◌++◌, Option}
-use Rattle.c_tree.specs.declared.place.At.{At}
-use Rattle.c_tree.specs.declared.words.Reserved.TheVariants as w
-use Rattle.c_tree.specs.declared.words.Punctuator.TheVariants as m
-use Rattle.c_tree.specs.Tokens.{Placed}
+use Rattle.c_words.specs.declared.place.At.{At}
+use Rattle.c_words.specs.declared.words.Reserved.TheVariants as w
+use Rattle.c_words.specs.declared.words.Punctuator.TheVariants as m
+use Rattle.c_words.specs.Tokens.{Placed}
 use Rattle.c_tree.specs.Syntax.{ExpressionTree, DeclarationTree, ForStartTree, StatementTree, BlockTree, BlockItemTree, BlockItemTrees}
 use Rattle.c_tree.specs.GrammarLimits.{Limits}
 use Rattle.c_tree.specs.GrammarTokens.{mark, word, first_at, Optional}

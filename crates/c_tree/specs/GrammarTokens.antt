@@ -1,18 +1,18 @@
 -- What the rules of the grammar are made of: tokens, and the braces, square brackets and commas of its notation.
 use Rattle.std.specs.Prelude.{ℕ, List, [], ◌∷◌, ◌++◌, Option, Some, None}
-use Rattle.c_tree.specs.declared.place.At.{At}
-use Rattle.c_tree.specs.declared.words.Reserved.{Reserved}
-use Rattle.c_tree.specs.declared.words.Punctuator.{Punctuator}
-use Rattle.c_tree.specs.declared.words.Punctuator.TheVariants as m
-use Rattle.c_tree.specs.declared.operators.UnaryOperator.{UnaryOperator}
-use Rattle.c_tree.specs.declared.operators.UnaryOperator.TheVariants as unary
-use Rattle.c_tree.specs.declared.operators.StepOperator.{StepOperator}
-use Rattle.c_tree.specs.declared.operators.StepOperator.TheVariants as step
-use Rattle.c_tree.specs.declared.operators.BinaryOperator.{BinaryOperator}
-use Rattle.c_tree.specs.declared.operators.BinaryOperator.TheVariants as binary
-use Rattle.c_tree.specs.declared.operators.AssignOperator.{AssignOperator}
-use Rattle.c_tree.specs.declared.operators.AssignOperator.TheVariants as assign
-use Rattle.c_tree.specs.Tokens.{Token, Placed}
+use Rattle.c_words.specs.declared.place.At.{At}
+use Rattle.c_words.specs.declared.words.Reserved.{Reserved}
+use Rattle.c_words.specs.declared.words.Punctuator.{Punctuator}
+use Rattle.c_words.specs.declared.words.Punctuator.TheVariants as m
+use Rattle.c_words.specs.declared.operators.UnaryOperator.{UnaryOperator}
+use Rattle.c_words.specs.declared.operators.UnaryOperator.TheVariants as unary
+use Rattle.c_words.specs.declared.operators.StepOperator.{StepOperator}
+use Rattle.c_words.specs.declared.operators.StepOperator.TheVariants as step
+use Rattle.c_words.specs.declared.operators.BinaryOperator.{BinaryOperator}
+use Rattle.c_words.specs.declared.operators.BinaryOperator.TheVariants as binary
+use Rattle.c_words.specs.declared.operators.AssignOperator.{AssignOperator}
+use Rattle.c_words.specs.declared.operators.AssignOperator.TheVariants as assign
+use Rattle.c_words.specs.Tokens.{Token, Placed}
 
 -- tokens at a place
 abbrev pub mark : Punctuator → At → Placed

@@ -8,15 +8,3 @@ pub mod GrammarTokens
 pub mod Syntax
 pub mod SyntaxHeights
 pub mod SyntaxViews
-pub mod Tokens
-pub mod Types
-pub mod TypesViewed
-pub mod TypedTree
-pub mod TypedViews
-pub mod Sizes
-pub mod Counts
-pub mod TypedOperands
-pub mod TypedRules
-pub mod TypedBody
-pub mod Typed
-pub mod TypedLaws

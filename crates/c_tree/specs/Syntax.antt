@@ -1,11 +1,11 @@
 -- The syntax tree as contracts see it. Each type here is a type of the program's tree, without the memory that it
 -- lies in: an `XTree` is what an `X` stands for. Lists of nodes that lead back to themselves are types of their own.
 use Rattle.std.specs.Prelude.{ℕ, Bool, List, Option}
-use Rattle.c_tree.specs.declared.place.At.{At}
-use Rattle.c_tree.specs.declared.operators.UnaryOperator.{UnaryOperator}
-use Rattle.c_tree.specs.declared.operators.StepOperator.{StepOperator}
-use Rattle.c_tree.specs.declared.operators.BinaryOperator.{BinaryOperator}
-use Rattle.c_tree.specs.declared.operators.AssignOperator.{AssignOperator}
+use Rattle.c_words.specs.declared.place.At.{At}
+use Rattle.c_words.specs.declared.operators.UnaryOperator.{UnaryOperator}
+use Rattle.c_words.specs.declared.operators.StepOperator.{StepOperator}
+use Rattle.c_words.specs.declared.operators.BinaryOperator.{BinaryOperator}
+use Rattle.c_words.specs.declared.operators.AssignOperator.{AssignOperator}
 use Rattle.c_tree.specs.declared.syntax.specifiers.Specifier.{Specifier as SpecifierTree}
 
 -- expressions (C11 6.5), and the type names in them (6.7.7)

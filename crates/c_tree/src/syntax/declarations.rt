@@ -1,6 +1,6 @@
 //! Declarations, initialisers and the definitions of structs.
 
-use crate::place::{At, Name};
+use c_words::place::{At, Name};
 use crate::syntax::declarators::Declarator;
 use crate::syntax::expressions::Expression;
 use crate::syntax::specifiers::Specifier;

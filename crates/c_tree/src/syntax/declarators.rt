@@ -4,7 +4,7 @@ ghost use Rattle.c_tree.specs.Syntax.{ParameterDeclaratorTree, DeclaratorTree};
 ghost use Rattle.c_tree.specs.SyntaxViews.{array_tree, parameter_declarator_tree, suffix_tree, declarator_tree};
 ghost use Rattle.c_tree.specs.GrammarDeclarations.{declarator_at, parameter_declarator_at};
 
-use crate::place::{At, Name};
+use c_words::place::{At, Name};
 use crate::syntax::expressions::Expression;
 use crate::syntax::specifiers::Specifier;
 use std::alloc::{AllocError, Global};

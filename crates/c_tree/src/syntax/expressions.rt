@@ -4,8 +4,8 @@ ghost use Rattle.c_tree.specs.Syntax.{ExpressionTree, TypeDeclaratorTree};
 ghost use Rattle.c_tree.specs.SyntaxViews.{expression_tree, expression_trees, type_name_tree, type_declarator_tree};
 ghost use Rattle.c_tree.specs.GrammarExpressions.{call_at};
 
-use crate::operators::{AssignOperator, BinaryOperator, StepOperator, UnaryOperator};
-use crate::place::{At, Bytes, Name};
+use c_words::operators::{AssignOperator, BinaryOperator, StepOperator, UnaryOperator};
+use c_words::place::{At, Bytes, Name};
 use crate::syntax::specifiers::Specifier;
 use std::alloc::{AllocError, Global};
 

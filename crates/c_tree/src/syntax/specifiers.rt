@@ -2,7 +2,7 @@
 ghost use Rattle.std.specs.Prelude.{◌≡◌};
 ghost use Rattle.c_tree.specs.GrammarExpressions.{specifier_at};
 
-use crate::place::{At, Name};
+use c_words::place::{At, Name};
 
 /// The words that name a type (C11 6.7.2).
 #[derive(Drop)]

@@ -1,7 +1,7 @@
 //! Statements and blocks.
 ghost use Rattle.std.specs.Prelude.{◌≡◌, IfOk};
 
-use crate::place::At;
+use c_words::place::At;
 use crate::syntax::declarations::Declaration;
 use crate::syntax::expressions::Expression;
 use std::alloc::{AllocError, Global};

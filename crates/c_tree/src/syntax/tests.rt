@@ -1,7 +1,7 @@
 //! With ample memory each constructor gives its node.
 use super::*;
-use crate::operators::{AssignOperator, BinaryOperator, StepOperator, UnaryOperator};
-use crate::place::At;
+use c_words::operators::{AssignOperator, BinaryOperator, StepOperator, UnaryOperator};
+use c_words::place::At;
 use bb_words::list::List;
 use std::test::Fail;
 

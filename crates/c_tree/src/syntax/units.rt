@@ -1,6 +1,6 @@
 //! The declarations of a file.
 
-use crate::place::At;
+use c_words::place::At;
 use crate::syntax::declarations::{InitDeclarator, StructDefinition};
 use crate::syntax::declarators::Declarator;
 use crate::syntax::specifiers::Specifier;

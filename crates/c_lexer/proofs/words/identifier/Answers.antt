@@ -1,5 +1,5 @@
 use Rattle.std.proofs.Common.{sym, ap, ◌∙◌}
-use Rattle.c_tree.specs.Tokens.{Token}
+use Rattle.c_words.specs.Tokens.{Token}
 use Rattle.c_lexer.specs.Words.{reserved_words}
 use Rattle.c_lexer.specs.Reading.{identifier}
 use Rattle.c_lexer.proofs.TableLemmas.{at_word}

@@ -1,5 +1,0 @@
-use Rattle.c_tree.proofs.TypedLemmas.{types_are_small}
-use Rattle.c_tree.proofs.typed_laws.types_are_small.Goals as goal
-
-pub returns : goal.returns
-returns c = types_are_small

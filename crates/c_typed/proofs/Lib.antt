@@ -1,0 +1,4 @@
+pub mod TypesCases
+pub mod TypedLemmas
+pub mod TypedPrograms
+pub mod TypedViewed

@@ -1,0 +1,11 @@
+pub mod Types
+pub mod TypesViewed
+pub mod TypedTree
+pub mod TypedViews
+pub mod Sizes
+pub mod Counts
+pub mod TypedOperands
+pub mod TypedRules
+pub mod TypedBody
+pub mod Typed
+pub mod TypedLaws

@@ -1,0 +1,37 @@
+//! Laws of the typed tree.
+ghost use Rattle.c_typed.specs.TypedLaws.{TypesAreSmall, UndefinedIsEmpty, TempsAtLeastFour, FortyTwo, ManyLocals, Mixed, NotTyped};
+
+/// No type of a typed program has more than 1,048,576 bytes.
+pub fn types_are_small()
+    ensures { TypesAreSmall }
+{}
+
+/// A tag that is never defined has size 0 and alignment 1.
+pub fn undefined_is_empty()
+    ensures { UndefinedIsEmpty }
+{}
+
+/// Each expression has 4 temporaries or more.
+pub fn temps_at_least_four()
+    ensures { TempsAtLeastFour }
+{}
+
+/// The tree of `int main(void){return 42;}` is typed and has 4 nodes.
+pub fn forty_two()
+    ensures { FortyTwo }
+{}
+
+/// A `main` with 247 locals has 251 values.
+pub fn many_locals()
+    ensures { ManyLocals }
+{}
+
+/// The layout of a struct with a `char`, an `int`, an array and a pointer.
+pub fn mixed()
+    ensures { Mixed }
+{}
+
+/// Small programs that break a rule are not typed.
+pub fn not_typed()
+    ensures { NotTyped }
+{}
