@@ -12,12 +12,14 @@ use Rattle.rv_image.specs.Rules.{IsImage, total_size}
 use Rattle.rv_machine.specs.declared.frames.Entered.{Entered}
 use Rattle.rv_machine.specs.declared.stop.Halt.{Halt}
 use Rattle.rv_machine.specs.declared.stop.Halt.TheVariants.{Trapped}
-use Rattle.rv_machine.specs.Blocks.{blocks_from, all_made, all_ended}
-use Rattle.rv_machine.specs.Environment.{World, Tell, Output, Happens, with_machine, events_of, exits, gets, gets_from, puts, kind_of, reported, reported_if, reports, enters, enters_by, enter_events, leaves, leaves_by, leave_events, made_event, ended_event, calls, telling}
+use Rattle.size_table.specs.Made.{blocks_from, all_made, all_ended}
+use Rattle.rv_machine.specs.Environment.{World, with_machine, exits, gets, gets_from, puts, kind_of, reported, reported_if, reports, enters, enters_by, enter_events, leaves, leaves_by, leave_events, made_event, ended_event, calls, telling}
+use Rattle.bb_watch.specs.Told.{Tell, Output, Happens, events_of}
 use Rattle.rv_machine.specs.Formed.{IsByte, IsCore, AreLaidOut, IsInRegion, IsFormed, live_in}
 use Rattle.rv_machine.specs.Frames.{Entering, Leaving, last_entered, stack_under, IsCall, AreCalls}
 use Rattle.rv_machine.specs.Instruction.{Goes, core_step, core_events}
-use Rattle.rv_machine.specs.Live.{global_blocks, call_blocks, live_of}
+use Rattle.bb_watch.specs.Live.{live_of}
+use Rattle.rv_machine.specs.Live.{global_blocks, call_blocks}
 use Rattle.rv_machine.specs.Machine.{step, steps}
 use Rattle.rv_machine.specs.State.{Core, Frames, register_of, gives, with_memory, with_core, halted}
 use Rattle.rv_machine.proofs.BlockLists.{between_all, between_wider, disjoint_up, from_between, from_disjoint}

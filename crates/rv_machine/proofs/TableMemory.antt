@@ -4,12 +4,11 @@ use Rattle.std.specs.Prelude.{All}
 use Rattle.std.proofs.lemmas.List.{places, same_lists, get_or-take, get_or-drop}
 use Rattle.std.proofs.lemmas.List.Elements.{All-head, All-tail}
 use Rattle.rv_code.specs.Laws.{ReadsOnly}
-use Rattle.rv_machine.specs.Blocks.{tabled, made, ended, all_made, all_ended}
-use Rattle.rv_machine.specs.Safety.{table_in}
+use Rattle.size_table.specs.Made.{tabled, made, ended, all_made, all_ended}
 use Rattle.rv_machine.proofs.BlockLists.{LieBetween}
 use Rattle.rv_machine.proofs.BlockMemory.{IsMemory, filled_long, made_memory, all_ended_memory}
 use Rattle.size_table.specs.Blocks.{Block, IsBlock, MissEachOther, MissesAll, AreDisjoint}
-use Rattle.size_table.specs.Table.{IsTableOf, Marks, BlockIsMarked, MarkingAdds, MarkingRemoves, filled}
+use Rattle.size_table.specs.Table.{IsTableOf, Marks, BlockIsMarked, MarkingAdds, MarkingRemoves, filled, table_in}
 
 -- the laws of the layers below
 pub record LawsBelow : Type 0 where

@@ -5,29 +5,13 @@ use Rattle.bb_words.specs.declared.kinds.ReportKind.TheVariants.{Bounds, Pointer
 use Rattle.bb_words.specs.declared.kinds.TrapKind.TheVariants.{Call}
 use Rattle.bb_watch.specs.declared.event.Event.{Event}
 use Rattle.bb_watch.specs.declared.event.Event.TheVariants.{Made, Ended}
+use Rattle.bb_watch.specs.Told.{Tell, Output, Happens}
 use Rattle.size_table.specs.Blocks.{Block}
 use Rattle.rv_machine.specs.declared.frames.Entry.{Entry}
 use Rattle.rv_machine.specs.declared.frames.Entry.TheVariants.{NoFrame, TooDeep, NoRoom, Enters}
 use Rattle.rv_machine.specs.declared.stop.Halt.TheVariants.{Exited, Reported, Trapped}
 use Rattle.rv_machine.specs.Frames.{Entering, Leaving, enter, leave, last_entered}
 use Rattle.rv_machine.specs.State.{State, register_of, next, gives, with_memory, halted, with_core}
-
--- what a run tells the outside, one thing after another: the bytes of its output, and events
-pub data Tell : Type 0 where
-  Output : (byte : ℕ) → Tell
-  Happens : (event : Event) → Tell
-
--- the bytes of the output
-abbrev pub output_of : List Tell → List ℕ
-output_of [] = []
-output_of (Output byte ∷ told) = byte ∷ output_of told
-output_of (Happens event ∷ told) = output_of told
-
--- the events
-abbrev pub events_of : List Tell → List Event
-events_of [] = []
-events_of (Output byte ∷ told) = events_of told
-events_of (Happens event ∷ told) = event ∷ events_of told
 
 -- a machine with the rest of its input and with what it has told
 pub record World : Type 0 where

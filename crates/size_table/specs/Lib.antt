@@ -1,2 +1,4 @@
 pub mod Blocks
 pub mod Table
+pub mod Made
+pub mod Memory

@@ -6,7 +6,9 @@
 //! address in it.
 #![tactic(auto)]
 
+pub mod calls;
 pub mod laws;
+pub mod memory_map;
 
 ghost use Rattle.std.specs.Prelude.{◌≡◌, ℕ, ◌/◌, ◌^◌, ◌<◌, ◌≤◌, List, length, slice_index};
 ghost use Rattle.size_table.specs.Blocks.{IsBlock, block_at};
