@@ -2,6 +2,7 @@ pub mod Steps
 pub mod Outside
 pub mod Calls
 pub mod Runs
+pub mod Pauses
 pub mod Tables
 pub mod Programs
 pub mod Layouts
