@@ -27,3 +27,6 @@ pub mod SafeRuns
 pub mod ExampleRuns
 pub mod UsedBlock
 pub mod UsedFrame
+pub mod SameBlocks
+pub mod EndedLists
+pub mod HeapLaws

@@ -1,5 +1,5 @@
 -- A machine whose core goes on until it pauses.
-use Rattle.std.proofs.Common.{◌≡◌, ℕ, ◌+◌, ◌<◌, ◌≤◌, Option, Some, None, sym, ap, subst, arith}
+use Rattle.std.proofs.Common.{◌≡◌, ℕ, ◌+◌, ◌<◌, ◌≤◌, List, Option, Some, None, sym, ap, subst, arith}
 use Rattle.bb_words.specs.declared.kinds.TrapKind.{TrapKind}
 use Rattle.rv_machine.specs.declared.stop.Fault.{Fault}
 use Rattle.rv_machine.specs.declared.stop.Fault.TheVariants as fault
@@ -10,18 +10,19 @@ use Rattle.rv_machine.specs.Instruction.{Traps, Asks, core_step}
 use Rattle.rv_machine.specs.Environment.{calls}
 use Rattle.rv_machine.specs.Machine.{steps}
 use Rattle.rv_machine.specs.Runs.{Ran, Shown, Stepped, Advanced, Stops, FaultCause, fault_of, stop_at, running}
+use Rattle.size_table.specs.Blocks.{Block}
 use Rattle.rv_machine.proofs.Calls.{step_traps, step_asks}
 use Rattle.rv_machine.proofs.Runs.{ran_more, ran_on, ran_still}
 
 -- a core goes on by k instructions whatever stands beside it
 abbrev pub CoreRan : ℕ → Core → Core → Type 0
-CoreRan k old new = (frames : Frames) (o : Shown) → Ran (steps k) (running old frames) o (running new frames) o
+CoreRan k old new = (frames : Frames) (heap : List Block) (o : Shown) → Ran (steps k) (running old frames heap) o (running new frames heap) o
 
 pub paused_went : (k : ℕ) (s : State) (core : Core) (o : Shown) → s.ending ≡ None → CoreRan k s.core core → Ran (steps k) s o (with_core core s) o
 paused_went k s core o h p =
-    let before : running s.core s.frames ≡ s = ap (λ (e : Option Halt). record { core = s.core; frames = s.frames; ending = e }) (sym h) in
-    let after : running core s.frames ≡ with_core core s = ap (λ (e : Option Halt). record { core = core; frames = s.frames; ending = e }) (sym h) in
-    subst (λ (x : State). Ran (steps k) x o (with_core core s) o) before (subst (λ (x : State). Ran (steps k) (running s.core s.frames) o x o) after (p s.frames o))
+    let before : running s.core s.frames s.heap ≡ s = ap (λ (e : Option Halt). record { core = s.core; frames = s.frames; heap = s.heap; ending = e }) (sym h) in
+    let after : running core s.frames s.heap ≡ with_core core s = ap (λ (e : Option Halt). record { core = core; frames = s.frames; heap = s.heap; ending = e }) (sym h) in
+    subst (λ (x : State). Ran (steps k) x o (with_core core s) o) before (subst (λ (x : State). Ran (steps k) (running s.core s.frames s.heap) o x o) after (p s.frames s.heap o))
 
 pub paused_traps : (k : ℕ) (s : State) (core : Core) (kind : TrapKind) (o : Shown) → s.ending ≡ None → CoreRan k s.core core → core_step core ≡ Traps kind → Ran (steps (k + 1)) s o (halted (Trapped kind) (with_core core s)) o
 paused_traps k s core kind o h p e = ran_more k s o (with_core core s) o (halted (Trapped kind) (with_core core s)) o (paused_went k s core o h p) (step_traps (with_core core s) kind o h e)

@@ -6,6 +6,7 @@ use Rattle.rv_image.specs.declared.image.Image.{Image}
 use Rattle.rv_machine.specs.declared.frames.Entered.{Entered}
 use Rattle.rv_machine.specs.Blocks.{blocks_from}
 use Rattle.rv_machine.specs.Frames.{stack_under}
+use Rattle.buddy_heap.specs.Places.{without}
 use Rattle.size_table.specs.Blocks.{Block, block_at, holds}
 
 -- the blocks of the global objects, which are live from the start on
@@ -21,11 +22,6 @@ frame_blocks back (Some exponents) = blocks_from (stack_under back exponents) ex
 abbrev pub call_blocks : (layouts : List (List ℕ)) → List Entered → List Block
 call_blocks layouts [] = []
 call_blocks layouts (call ∷ calls) = frame_blocks call.back (slice_get layouts call.frame) ++ call_blocks layouts calls
-
--- the blocks without the one that begins there
-abbrev pub without : ℕ → List Block → List Block
-without at [] = []
-without at (b ∷ bs) = if b.base == at then bs else b ∷ without at bs
 
 -- the live blocks after an event, by those before it
 abbrev pub live_after : Event → List Block → List Block

@@ -15,6 +15,7 @@ use Rattle.rv_machine.specs.State.{Core, Frames, State}
 use Rattle.rv_machine.specs.Instruction.{Traps, Asks, core_step}
 use Rattle.rv_machine.specs.Environment.{World, Tell, output_of}
 use Rattle.rv_machine.specs.Machine.{steps, IsBeforeCall}
+use Rattle.size_table.specs.Blocks.{Block}
 
 -- what a source and a sink show at one moment
 pub record Shown : Type 0 where
@@ -53,8 +54,8 @@ Advanced (Some fault.Read) k s o s' o' = Ran (steps k) s o s' o' × IsBeforeCall
 Advanced (Some fault.Write) k s o s' o' = Ran (steps k) s o s' o' × IsBeforeCall 3 s'
 
 -- a machine that has not ended
-abbrev pub running : Core → Frames → State
-running core frames = record { core = core; frames = frames; ending = None }
+abbrev pub running : Core → Frames → List Block → State
+running core frames heap = record { core = core; frames = frames; heap = heap; ending = None }
 
 -- Why a core that may do n instructions comes back after k: all are done, or the next is trapped, or asks.
 abbrev pub Paused : Effect → (n k : ℕ) → Core → Type 0

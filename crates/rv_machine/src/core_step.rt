@@ -38,7 +38,7 @@ impl Model for Core {
 }
 
 impl Core {
-    ghost use Rattle.size_table.specs.Blocks.{IsBlock, block_at};
+    ghost use Rattle.size_table.specs.Blocks.{Block, IsBlock, block_at};
     ghost use Rattle.size_table.specs.Table.{filled};
     ghost use Rattle.rv_machine.specs.Blocks.{made, ended};
     ghost use Rattle.rv_machine.specs.Memory.{half_at, word_at};
@@ -95,7 +95,7 @@ impl Core {
     /// and no write to the memory can reach it or the registers. It is one function for all sources and sinks.
     #[inline(never)]
     pub(crate) fn go(mut self, n: u64) -> (Core, Pause)
-        ensures ran { (frames : Frames) (o : Shown) → Ran (steps result.1.went) (running self frames) o (running result.0 frames) o }
+        ensures ran { (frames : Frames) (heap : List Block) (o : Shown) → Ran (steps result.1.went) (running self frames heap) o (running result.0 frames heap) o }
         ensures pause { Paused result.1.effect n result.1.went result.0 }
     {
         for went in 0..n {

@@ -11,16 +11,18 @@ use crate::stop::{Effect, Fault, Halt, Stop};
 use bb_outside::{Sink, SinkFailed, Source, SourceFailed};
 use bb_words::kinds::{ReportKind, TrapKind};
 use bb_words::word::Word;
+use buddy_heap::heap::{exponent, Heap};
 use core::mem::replace_with;
 use rv_image::image::Image;
 use std::alloc::{AllocError, Global};
 use std::marker::Model;
 
-/// A machine: its registers, its memory, the calls entered, and how it has ended, if it has.
+/// A machine: its registers, its memory, the calls entered, the blocks of the heap, and how it has ended, if it has.
 #[derive(Drop)]
 pub struct Machine {
     core: Core,
     frames: Frames,
+    heap: Heap,
     ended: Option<Halt>,
 }
 
@@ -29,14 +31,14 @@ impl Model for Machine {
 
     ghost Value = { State };
 
-    ghost view = { λ m. record { core = m.core; frames = m.frames; ending = m.ended } };
+    ghost view = { λ m. record { core = m.core; frames = m.frames; heap = m.heap; ending = m.ended } };
 }
 
 impl Machine {
     ghost use Rattle.rv_machine.specs.declared.stop.Halt.TheVariants.{Trapped};
     ghost use Rattle.rv_machine.specs.State.{register_of, halted};
     ghost use Rattle.rv_machine.specs.Instruction.{Asks, core_step};
-    ghost use Rattle.rv_machine.specs.Environment.{calls, exits, gets, puts, reported, reports, enters, leaves};
+    ghost use Rattle.rv_machine.specs.Environment.{calls, exits, gets, puts, reported, reports, enters, leaves, mallocs, frees};
     ghost use Rattle.rv_machine.specs.Start.{start};
     ghost use Rattle.rv_machine.specs.Runs.{Answered, Stepped, Advanced, Stops, FaultCause, fault_of, stop_of};
 
@@ -48,9 +50,11 @@ impl Machine {
     {
         let core = Core::new(alloc, image)?;
         let frames = Frames::new(alloc, &image.frames)?;
+        let heap = Heap::new(alloc)?;
         Ok(Machine {
             core,
             frames,
+            heap,
             ended: None,
         })
     }
@@ -164,6 +168,14 @@ impl Machine {
                 Ok(()) => None,
                 Err(_) => Some(Fault::Write),
             },
+            4 => {
+                self.malloc();
+                None
+            }
+            5 => {
+                self.free();
+                None
+            }
             6 => {
                 self.report();
                 None
@@ -234,6 +246,46 @@ impl Machine {
         match self.frames.leave(&mut self.core, frame) {
             Some(back) => self.core.give(10, back),
             None => self.trap(TrapKind::Call),
+        }
+    }
+
+    // Makes a block for a size, which is in x10, and x10 becomes its base, or 0.
+    #[tactic(auto, unfolding(crate::specs::Environment::new_block))]
+    fn malloc(&mut self)
+        requires { self.old.core.pc < 2097152 }
+        ensures { self.new ≡ mallocs self.old }
+    {
+        let size = self.core.register(10);
+        if size > 0x100_0000 {
+            self.core.give(10, 0);
+            return;
+        }
+        let e = exponent(size);
+        match self.heap.take(e) {
+            Some(base) => {
+                self.core.make(base, e);
+                self.core.give(10, base);
+            }
+            None => self.core.give(10, 0),
+        }
+    }
+
+    // Ends the block that begins at x10.
+    fn free(&mut self)
+        requires { self.old.core.pc < 2097152 }
+        ensures { self.new ≡ frees self.old }
+    {
+        let at = self.core.register(10);
+        if at == 0 {
+            self.core.pass();
+            return;
+        }
+        match self.heap.give(at) {
+            Ok(e) => {
+                self.core.end(at, e);
+                self.core.pass();
+            }
+            Err(_) => self.end_by(ReportKind::BadFree),
         }
     }
 

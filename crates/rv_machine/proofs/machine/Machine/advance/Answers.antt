@@ -8,7 +8,7 @@ use Rattle.rv_machine.proofs.machine.Machine.advance.Goals as goal
 
 pub returns-in-Trapped-clause-advanced : goal.returns-in-Trapped-clause-advanced
 returns-in-Trapped-clause-advanced g c =
-    let s : State = record { core = c.self.inside.core; frames = c.self.inside.frames; ending = c.self.inside.ended } in
+    let s : State = record { core = c.self.inside.core; frames = c.self.inside.frames; heap = c.self.inside.heap; ending = c.self.inside.ended } in
     let running = ap (λ (x : State). x.ending) c.self.view_is ∙ c.requires.running in
     let o : Shown = record { left = g.I.Source.left c.args.input.now; is_over = g.I.Source.is_over c.args.input.now; written = g.O.Sink.written c.args.output.now } in
     let pause = rw c.in-Trapped.is at c.replace_with-pause.ensures.1 in
@@ -18,7 +18,7 @@ returns-in-Trapped-clause-advanced g c =
 
 pub returns-in-None-clause-advanced : goal.returns-in-None-clause-advanced
 returns-in-None-clause-advanced g c =
-    let s : State = record { core = c.self.inside.core; frames = c.self.inside.frames; ending = c.self.inside.ended } in
+    let s : State = record { core = c.self.inside.core; frames = c.self.inside.frames; heap = c.self.inside.heap; ending = c.self.inside.ended } in
     let running = ap (λ (x : State). x.ending) c.self.view_is ∙ c.requires.running in
     let o : Shown = record { left = g.I.Source.left c.args.input.now; is_over = g.I.Source.is_over c.args.input.now; written = g.O.Sink.written c.args.output.now } in
     let o' : Shown = record { left = g.I.Source.left c.call.new.input; is_over = g.I.Source.is_over c.call.new.input; written = g.O.Sink.written c.call.new.output } in
@@ -28,7 +28,7 @@ returns-in-None-clause-advanced g c =
 
 pub returns-in-Some-clause-advanced : goal.returns-in-Some-clause-advanced
 returns-in-Some-clause-advanced g c =
-    let s : State = record { core = c.self.inside.core; frames = c.self.inside.frames; ending = c.self.inside.ended } in
+    let s : State = record { core = c.self.inside.core; frames = c.self.inside.frames; heap = c.self.inside.heap; ending = c.self.inside.ended } in
     let running = ap (λ (x : State). x.ending) c.self.view_is ∙ c.requires.running in
     let o : Shown = record { left = g.I.Source.left c.args.input.now; is_over = g.I.Source.is_over c.args.input.now; written = g.O.Sink.written c.args.output.now } in
     let o' : Shown = record { left = g.I.Source.left c.call.new.input; is_over = g.I.Source.is_over c.call.new.input; written = g.O.Sink.written c.call.new.output } in
