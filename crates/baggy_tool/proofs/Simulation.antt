@@ -12,10 +12,11 @@ use Rattle.rv_image.specs.declared.image.Image.{Image}
 use Rattle.rv_machine.specs.declared.stop.Halt.{Halt}
 use Rattle.rv_machine.specs.declared.stop.Halt.TheVariants.{Exited}
 use Rattle.rv_machine.specs.State.{Core, State, memory_size, register_of}
-use Rattle.rv_machine.specs.Memory.{word_at, written_at, bytes_of_words, Stand}
+use Rattle.size_table.specs.Memory.{word_at, written_at, bytes_of_words, Stand}
 use Rattle.rv_machine.specs.Formed.{IsWord}
 use Rattle.rv_machine.specs.Instruction.{Goes, Asks, core_step}
-use Rattle.rv_machine.specs.Environment.{World, Tell, Happens, calls}
+use Rattle.rv_machine.specs.Environment.{World, calls}
+use Rattle.bb_watch.specs.Told.{Tell, Happens}
 use Rattle.rv_machine.specs.Machine.{step, steps, machine_after, IsBeforeCall}
 use Rattle.rv_machine.specs.Start.{start, start_memory, start_registers, start_frames}
 use Rattle.baggy_tool.specs.declared.form.Summand.{Summand}

@@ -8,7 +8,8 @@ use Rattle.rv_machine.specs.declared.stop.Fault.TheVariants as fault
 use Rattle.rv_machine.specs.declared.stop.Halt.TheVariants.{Trapped}
 use Rattle.rv_machine.specs.State.{Core, State, register_of, halted, with_core}
 use Rattle.rv_machine.specs.Instruction.{Goes, Traps, Asks, core_step, core_events}
-use Rattle.rv_machine.specs.Environment.{Tell, calls, exits, gets, puts, mallocs, malloc_events, frees, free_events, reports, enters, enter_events, leaves, leave_events}
+use Rattle.rv_machine.specs.Environment.{calls, exits, gets, puts, mallocs, malloc_events, frees, free_events, reports, enters, enter_events, leaves, leave_events}
+use Rattle.bb_watch.specs.Told.{Tell}
 use Rattle.rv_machine.specs.Machine.{step, IsBeforeCall}
 use Rattle.rv_machine.specs.Runs.{Ran, Shown, Stepped}
 use Rattle.rv_machine.proofs.Steps.{step_acts}

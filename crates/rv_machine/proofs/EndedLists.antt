@@ -4,11 +4,10 @@ use Rattle.std.specs.Prelude.{map, reverse}
 use Rattle.std.proofs.lemmas.List.{map-append, reverse-append}
 use Rattle.rv_machine.specs.Environment.{ended_event}
 use Rattle.rv_machine.specs.Formed.{count_in}
-use Rattle.rv_machine.specs.Live.{live_of}
+use Rattle.bb_watch.specs.Live.{live_of}
 use Rattle.rv_machine.proofs.LiveLists.{live_append}
 use Rattle.rv_machine.proofs.SameBlocks.{one_self, count_without, without_disjoint}
-use Rattle.buddy_heap.specs.Places.{without}
-use Rattle.size_table.specs.Blocks.{Block, AreDisjoint}
+use Rattle.size_table.specs.Blocks.{Block, AreDisjoint, without}
 
 -- each of the blocks stands among the others, as often as among them
 abbrev pub AreAmong : List Block → List Block → Type 0

@@ -14,21 +14,24 @@ use Rattle.rv_code.specs.declared.instr.Instr.TheVariants.{Lui, Jalr, Lw, Sb, Sw
 use Rattle.rv_image.specs.declared.image.Image.{Image}
 use Rattle.rv_image.specs.Rules.{IsImage}
 use Rattle.rv_machine.specs.declared.stop.Halt.TheVariants.{Exited, Trapped}
-use Rattle.rv_machine.specs.Environment.{World, Tell, Happens, events_of, with_machine, calls, exits}
+use Rattle.rv_machine.specs.Environment.{World, with_machine, calls, exits}
+use Rattle.bb_watch.specs.Told.{Tell, Happens, events_of}
 use Rattle.rv_machine.specs.Examples.{image_with, forty_two, moves_unowned, reads_unowned, writes_table, changes_table, returns_nowhere, breaks, Clause, OnMoves, OnAccesses, OnControl, OnTable, OnReturns, OnTraps, Holds, BreaksAlone, ClausesRefuse, UnsafeExamples}
 use Rattle.rv_machine.specs.Formed.{IsByte, IsWord}
 use Rattle.rv_machine.specs.Instruction.{Goes, Traps, Asks, effect, event_of}
-use Rattle.rv_machine.specs.Live.{global_blocks, live_of}
+use Rattle.bb_watch.specs.Live.{live_of}
+use Rattle.rv_machine.specs.Live.{global_blocks}
 use Rattle.rv_machine.specs.Machine.{step, steps, machine_after}
-use Rattle.rv_machine.specs.Memory.{Stand, word_at, written_at}
-use Rattle.rv_machine.specs.Safety.{IsSafe, IsSafeEnding, SafeRun, Each, IsMoveSafe, IsAccessSafe, IsControlSafe, LieIn, WasFreed, open_after, table_in}
+use Rattle.bb_watch.specs.Safety.{Each, IsMoveSafe, IsAccessSafe, IsControlSafe, LieIn, WasFreed, open_after}
+use Rattle.size_table.specs.Memory.{Stand, word_at, written_at}
+use Rattle.rv_machine.specs.Safety.{IsSafe, IsSafeEnding, SafeRun}
 use Rattle.rv_machine.specs.Start.{start, start_memory, start_registers, start_frames}
 use Rattle.rv_machine.specs.State.{Core, Frames, with_core, halted}
 use Rattle.rv_machine.proofs.Programs.{does_instr, tells_instr}
 use Rattle.rv_machine.proofs.Starts.{start_stands, start_table, start_whole}
 use Rattle.rv_machine.proofs.Steps.{step_acts, steps_stay}
 use Rattle.rv_machine.proofs.TableMemory.{LawsBelow, table_at, table_long}
-use Rattle.size_table.specs.Table.{IsTableOf}
+use Rattle.size_table.specs.Table.{IsTableOf, table_in}
 
 -- ---- One instruction
 

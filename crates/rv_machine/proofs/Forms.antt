@@ -15,13 +15,15 @@ use Rattle.rv_image.specs.Rules.{IsImage, total_size}
 use Rattle.rv_machine.specs.declared.frames.Entered.{Entered}
 use Rattle.rv_machine.specs.declared.stop.Halt.{Halt}
 use Rattle.rv_machine.specs.declared.stop.Halt.TheVariants.{Trapped}
-use Rattle.buddy_heap.specs.Places.{IsRoom, IsPlaceOf, exponent_of, place_of, with_block, block_from, without}
-use Rattle.rv_machine.specs.Blocks.{made, ended, blocks_from, all_made, all_ended}
-use Rattle.rv_machine.specs.Environment.{World, Tell, Output, Happens, with_machine, events_of, exits, gets, gets_from, puts, kind_of, reported, reported_if, reports, enters, enters_by, enter_events, leaves, leaves_by, leave_events, made_event, ended_event, new_block, block_of, new_in, blocks_if, mallocs_by, mallocs, malloc_events, Freeing, Nothing, NoBlock, Ends, freeing_if, freeing, frees_by, frees, freed_blocks, free_events, calls, telling}
+use Rattle.buddy_heap.specs.Places.{IsRoom, IsPlaceOf, exponent_of, place_of, with_block, block_from}
+use Rattle.size_table.specs.Made.{made, ended, blocks_from, all_made, all_ended}
+use Rattle.rv_machine.specs.Environment.{World, with_machine, exits, gets, gets_from, puts, kind_of, reported, reported_if, reports, enters, enters_by, enter_events, leaves, leaves_by, leave_events, made_event, ended_event, new_block, block_of, new_in, blocks_if, mallocs_by, mallocs, malloc_events, Freeing, Nothing, NoBlock, Ends, freeing_if, freeing, frees_by, frees, freed_blocks, free_events, calls, telling}
+use Rattle.bb_watch.specs.Told.{Tell, Output, Happens, events_of}
 use Rattle.rv_machine.specs.Formed.{IsByte, IsCore, AreLaidOut, IsInRegion, IsInHeap, IsHeap, IsFormed, live_in, count_in, SameBlocks}
 use Rattle.rv_machine.specs.Frames.{Entering, Leaving, last_entered, stack_under, IsCall, AreCalls}
 use Rattle.rv_machine.specs.Instruction.{Goes, core_step, core_events}
-use Rattle.rv_machine.specs.Live.{global_blocks, call_blocks, live_of}
+use Rattle.bb_watch.specs.Live.{live_of}
+use Rattle.rv_machine.specs.Live.{global_blocks, call_blocks}
 use Rattle.rv_machine.specs.Machine.{step, steps}
 use Rattle.rv_machine.specs.State.{Core, Frames, State, register_of, gives, with_memory, with_core, halted}
 use Rattle.rv_machine.proofs.BlockLists.{LieBetween, between_append, between_all, between_wider, disjoint_up, from_between, from_disjoint}
@@ -35,7 +37,7 @@ use Rattle.rv_machine.proofs.HeapLaws.{HeapLaws}
 use Rattle.rv_machine.proofs.EndedLists.{AreAmong, all_ended_blocks}
 use Rattle.rv_machine.proofs.SameBlocks.{all_of, each_of, same_all, same_disjoint, count_append, count_with, count_without, without_disjoint, found_in}
 use Rattle.rv_machine.proofs.Starts.{globals_aligned}
-use Rattle.size_table.specs.Blocks.{Block, block_at, IsBlock, AreDisjoint, end_of}
+use Rattle.size_table.specs.Blocks.{Block, block_at, IsBlock, AreDisjoint, end_of, without}
 
 -- ---- The blocks that live
 

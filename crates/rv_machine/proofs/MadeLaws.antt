@@ -7,9 +7,10 @@ use Rattle.bb_watch.specs.declared.event.Event.{Event}
 use Rattle.rv_image.specs.declared.image.Image.{Image}
 use Rattle.rv_image.specs.Rules.{IsImage, total_size}
 use Rattle.rv_machine.specs.declared.frames.Entry.TheVariants.{NoFrame, TooDeep, NoRoom}
-use Rattle.rv_machine.specs.Blocks.{blocks_from}
+use Rattle.size_table.specs.Made.{blocks_from}
 use Rattle.rv_machine.specs.Changes.{IsMadeIn}
-use Rattle.rv_machine.specs.Environment.{World, Tell, Output, Happens, with_machine, telling, events_of, calls, gets, puts, kind_of, reports, enters, enter_events, leaving, leaves, leave_events, made_event, ended_event, new_in, mallocs, malloc_events, frees, free_events, freed_blocks, freeing}
+use Rattle.rv_machine.specs.Environment.{World, with_machine, telling, calls, gets, puts, kind_of, reports, enters, enter_events, leaving, leaves, leave_events, made_event, ended_event, new_in, mallocs, malloc_events, frees, free_events, freed_blocks, freeing}
+use Rattle.bb_watch.specs.Told.{Tell, Output, Happens, events_of}
 use Rattle.rv_machine.specs.Formed.{IsFormed}
 use Rattle.rv_machine.specs.Frames.{Entering, entered_at, refused, stack_under}
 use Rattle.rv_machine.specs.Instruction.{core_events}

@@ -7,7 +7,7 @@ use Rattle.rv_code.specs.Code.{Fits, word_of, instruction_of}
 use Rattle.rv_code.specs.Laws.{ReadsBack}
 use Rattle.rv_code.specs.declared.instr.Instr.{Instr}
 use Rattle.rv_machine.specs.State.{Core}
-use Rattle.rv_machine.specs.Memory.{word_at, written_at, bytes_of_words, Stand}
+use Rattle.size_table.specs.Memory.{word_at, written_at, bytes_of_words, Stand}
 use Rattle.rv_machine.specs.Formed.{IsWord}
 use Rattle.rv_machine.specs.Instruction.{effect, core_step, core_events, event_of, event_if}
 use Rattle.rv_machine.proofs.Tables.{written_other}

@@ -4,7 +4,8 @@ use Rattle.std.specs.Prelude.{IsSome}
 use Rattle.rv_machine.specs.declared.stop.Halt.{Halt}
 use Rattle.rv_machine.specs.declared.stop.Halt.TheVariants as halt
 use Rattle.rv_machine.specs.State.{State}
-use Rattle.rv_machine.specs.Environment.{World, Tell, Output, Happens, output_of}
+use Rattle.rv_machine.specs.Environment.{World}
+use Rattle.bb_watch.specs.Told.{Tell, Output, Happens, output_of}
 use Rattle.rv_machine.specs.Machine.{step, steps}
 use Rattle.rv_machine.specs.Runs.{Ran, Shown, Stops, FaultCause, fault_of, stop_of}
 use Rattle.rv_machine.proofs.Steps.{steps_none, steps_more, steps_add, steps_stay}

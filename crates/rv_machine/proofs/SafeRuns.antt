@@ -9,17 +9,19 @@ use Rattle.rv_code.specs.declared.instr.Instr.TheVariants.{Lui, Jal, Jalr, Lb, L
 use Rattle.rv_image.specs.declared.image.Image.{Image}
 use Rattle.rv_image.specs.Rules.{IsImage}
 use Rattle.rv_machine.specs.declared.stop.Halt.{Halt}
-use Rattle.rv_machine.specs.Blocks.{blocks_from}
+use Rattle.size_table.specs.Made.{blocks_from}
 use Rattle.rv_machine.specs.Changes.{IsOffTable, AreOffTable}
-use Rattle.rv_machine.specs.Environment.{World, Tell, Happens, events_of, enter_events, leave_events, leaving, made_event, ended_event, new_in, blocks_if, malloc_events, free_events, freed_blocks, freeing}
+use Rattle.rv_machine.specs.Environment.{World, enter_events, leave_events, leaving, made_event, ended_event, new_in, blocks_if, malloc_events, free_events, freed_blocks, freeing}
+use Rattle.bb_watch.specs.Told.{Tell, Happens, events_of}
 use Rattle.rv_machine.specs.Formed.{IsByte, live_in}
 use Rattle.rv_machine.specs.Frames.{Entering, stack_under}
 use Rattle.rv_machine.specs.Instruction.{Act, Goes, Traps, Asks, core_step, core_events, event_of, event_if, instruction_at}
 use Rattle.rv_machine.specs.Laws.{call_tells, act_tells, tells_of, tells_unless_ended}
-use Rattle.buddy_heap.specs.Places.{without}
-use Rattle.rv_machine.specs.Live.{global_blocks, live_after, ever_after, holder}
+use Rattle.bb_watch.specs.Live.{live_after, ever_after, holder}
+use Rattle.rv_machine.specs.Live.{global_blocks}
+use Rattle.bb_watch.specs.Safety.{Each, IsMoveSafe, IsAccessSafe, IsControlSafe, LieIn, WasFreed, open_after, return_place}
 use Rattle.rv_machine.specs.Machine.{steps, machine_after}
-use Rattle.rv_machine.specs.Safety.{IsSafe, IsSafeEnding, SafeRun, Each, IsMoveSafe, IsAccessSafe, IsControlSafe, LieIn, WasFreed, open_after, return_place, table_in}
+use Rattle.rv_machine.specs.Safety.{IsSafe, IsSafeEnding, SafeRun}
 use Rattle.rv_machine.specs.Start.{start}
 use Rattle.rv_machine.specs.State.{Core, State, register_of}
 use Rattle.rv_machine.proofs.Forms.{new_room}
@@ -31,8 +33,8 @@ use Rattle.rv_machine.proofs.Starts.{start_formed, start_has_table}
 use Rattle.rv_machine.proofs.Steps.{steps_stay}
 use Rattle.rv_machine.proofs.TableMemory.{LawsBelow}
 use Rattle.rv_machine.proofs.Tells.{step_told, steps_told}
-use Rattle.size_table.specs.Blocks.{Block, block_at, end_of}
-use Rattle.size_table.specs.Table.{IsTableOf}
+use Rattle.size_table.specs.Blocks.{Block, block_at, end_of, without}
+use Rattle.size_table.specs.Table.{IsTableOf, table_in}
 
 -- ---- The first events
 

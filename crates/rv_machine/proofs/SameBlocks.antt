@@ -5,9 +5,9 @@ use Rattle.std.proofs.lemmas.Bool.{eq-eqb, ne_eqb, eqb-true}
 use Rattle.std.proofs.lemmas.List.Elements.{All-nil, All-cons, All-head, All-tail}
 use Rattle.std.proofs.lemmas.Nat.{pow_pos}
 use Rattle.std.proofs.lemmas.Option.{same_Some, none-some}
-use Rattle.buddy_heap.specs.Places.{with_block, without, block_from}
+use Rattle.buddy_heap.specs.Places.{with_block, block_from}
 use Rattle.rv_machine.specs.Formed.{one_of, count_in, SameBlocks}
-use Rattle.size_table.specs.Blocks.{Block, block_at, end_of, MissEachOther, MissesAll, AreDisjoint}
+use Rattle.size_table.specs.Blocks.{Block, block_at, end_of, MissEachOther, MissesAll, AreDisjoint, without}
 
 -- ---- One block
 

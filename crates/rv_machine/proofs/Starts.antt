@@ -8,11 +8,10 @@ use Rattle.std.proofs.lemmas.List.Elements.{All-nil, All-from_recursion, recursi
 use Rattle.std.proofs.lemmas.Nat.{pow-add}
 use Rattle.rv_image.specs.declared.image.Image.{Image}
 use Rattle.rv_image.specs.Rules.{IsImage, Decline}
-use Rattle.rv_machine.specs.Blocks.{tabled, blocks_from}
+use Rattle.size_table.specs.Made.{tabled, blocks_from}
 use Rattle.rv_machine.specs.Formed.{IsWord, IsByte, IsCore, IsFormed, IsInHeap, count_in, live_in}
 use Rattle.rv_machine.specs.Live.{global_blocks}
-use Rattle.rv_machine.specs.Memory.{word_at, written_at, bytes_of_words, table_bytes, Stand}
-use Rattle.rv_machine.specs.Safety.{table_in}
+use Rattle.size_table.specs.Memory.{word_at, written_at, bytes_of_words, table_bytes, Stand}
 use Rattle.rv_machine.specs.Start.{start, start_memory, start_registers}
 use Rattle.rv_machine.specs.State.{memory_size}
 use Rattle.rv_machine.proofs.BlockLists.{from_aligned, from_disjoint}
@@ -21,7 +20,7 @@ use Rattle.rv_machine.proofs.Programs.{words_stand}
 use Rattle.rv_machine.proofs.TableMemory.{LawsBelow, added, tabled_marks, first_disjoint, table_at, table_long, table_stays}
 use Rattle.rv_machine.proofs.Tables.{written_append, written_long, written_bytes, written_other}
 use Rattle.size_table.specs.Blocks.{Block, block_at, IsBlock, AreDisjoint}
-use Rattle.size_table.specs.Table.{IsTableOf, filled}
+use Rattle.size_table.specs.Table.{IsTableOf, filled, table_in}
 
 -- ---- Bytes that are written
 

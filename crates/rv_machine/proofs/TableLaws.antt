@@ -5,16 +5,17 @@ use Rattle.bb_watch.specs.declared.event.Event.{Event}
 use Rattle.rv_image.specs.declared.image.Image.{Image}
 use Rattle.rv_image.specs.Rules.{IsImage, total_size}
 use Rattle.rv_machine.specs.declared.frames.Entry.TheVariants.{NoFrame, TooDeep, NoRoom}
-use Rattle.rv_machine.specs.Blocks.{made, ended, blocks_from, all_made, all_ended}
+use Rattle.size_table.specs.Made.{made, ended, blocks_from, all_made, all_ended}
 use Rattle.rv_machine.specs.Changes.{AreOffTable}
-use Rattle.rv_machine.specs.Environment.{World, Tell, Output, Happens, with_machine, telling, events_of, calls, gets, puts, kind_of, reports, enters, enter_events, leaves, leave_events, made_event, ended_event, new_in, mallocs, malloc_events, Freeing, Nothing, NoBlock, Ends, frees, free_events}
+use Rattle.rv_machine.specs.Environment.{World, with_machine, telling, calls, gets, puts, kind_of, reports, enters, enter_events, leaves, leave_events, made_event, ended_event, new_in, mallocs, malloc_events, Freeing, Nothing, NoBlock, Ends, frees, free_events}
+use Rattle.bb_watch.specs.Told.{Tell, Output, Happens, events_of}
 use Rattle.rv_machine.specs.Formed.{IsFormed, live_in}
 use Rattle.rv_machine.specs.Frames.{Entering, Leaving, last_entered, not_left, refused, stack_under}
 use Rattle.rv_machine.specs.Instruction.{Goes, core_step, core_events}
 use Rattle.rv_machine.specs.Laws.{tells_of}
-use Rattle.rv_machine.specs.Live.{global_blocks, call_blocks, live_of}
+use Rattle.bb_watch.specs.Live.{live_of}
+use Rattle.rv_machine.specs.Live.{global_blocks, call_blocks}
 use Rattle.rv_machine.specs.Machine.{step, steps}
-use Rattle.rv_machine.specs.Safety.{table_in}
 use Rattle.rv_machine.specs.State.{Core, register_of, with_core}
 use Rattle.rv_machine.proofs.BlockLists.{from_between}
 use Rattle.rv_machine.proofs.Cases.{by_step, by_call, by_entering, by_leaving}
@@ -25,7 +26,7 @@ use Rattle.rv_machine.proofs.LiveLists.{live_append, events_append, events_happe
 use Rattle.rv_machine.proofs.TableMemory.{LawsBelow, made_table, ended_table, all_made_table, all_ended_table, table_stays}
 use Rattle.rv_machine.proofs.Tells.{gets_told, step_told}
 use Rattle.size_table.specs.Blocks.{Block}
-use Rattle.size_table.specs.Table.{IsTableOf}
+use Rattle.size_table.specs.Table.{IsTableOf, table_in}
 use Rattle.rv_machine.proofs.MemoryLaws.{events_more, gets_memory, reports_memory, reports_told}
 
 HasTable : Image → World → Type 0

@@ -4,19 +4,17 @@ use Rattle.std.specs.Prelude.{All, map, reverse}
 use Rattle.std.proofs.lemmas.List.{places, same_lists, get_or-take, get_or-drop}
 use Rattle.std.proofs.lemmas.List.Elements.{All-head, All-tail}
 use Rattle.rv_code.specs.Laws.{ReadsOnly}
-use Rattle.rv_machine.specs.Blocks.{tabled, made, ended, all_made, all_ended}
-use Rattle.rv_machine.specs.Safety.{table_in}
-use Rattle.buddy_heap.specs.Places.{without}
+use Rattle.size_table.specs.Made.{tabled, made, ended, all_made, all_ended}
 use Rattle.rv_machine.specs.Environment.{ended_event}
 use Rattle.rv_machine.specs.Formed.{count_in}
-use Rattle.rv_machine.specs.Live.{live_of}
+use Rattle.bb_watch.specs.Live.{live_of}
 use Rattle.rv_machine.proofs.EndedLists.{AreAmong, all_ended_blocks, last_ends}
 use Rattle.rv_machine.proofs.HeapLaws.{HeapLaws}
 use Rattle.rv_machine.proofs.SameBlocks.{removed, one_self}
 use Rattle.rv_machine.proofs.BlockLists.{LieBetween}
 use Rattle.rv_machine.proofs.BlockMemory.{IsMemory, filled_long, made_memory, all_ended_memory}
-use Rattle.size_table.specs.Blocks.{Block, IsBlock, MissEachOther, MissesAll, AreDisjoint}
-use Rattle.size_table.specs.Table.{IsTableOf, Marks, BlockIsMarked, MarkingAdds, MarkingRemoves, filled}
+use Rattle.size_table.specs.Blocks.{Block, IsBlock, MissEachOther, MissesAll, AreDisjoint, without}
+use Rattle.size_table.specs.Table.{IsTableOf, Marks, BlockIsMarked, MarkingAdds, MarkingRemoves, filled, table_in}
 
 -- the laws of the layers below
 pub record LawsBelow : Type 0 where

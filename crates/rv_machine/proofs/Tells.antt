@@ -5,7 +5,8 @@ use Rattle.std.proofs.lemmas.Bool.Decides.{nat_tests}
 use Rattle.rv_machine.specs.declared.stop.Halt.{Halt}
 use Rattle.rv_machine.specs.State.{State, register_of}
 use Rattle.rv_machine.specs.Instruction.{Act, Goes, Traps, Asks, core_step}
-use Rattle.rv_machine.specs.Environment.{Tell, Output, Happens, World, malloc_events, free_events, enter_events, leave_events, calls, gets_from}
+use Rattle.rv_machine.specs.Environment.{World, malloc_events, free_events, enter_events, leave_events, calls, gets_from}
+use Rattle.bb_watch.specs.Told.{Tell, Output, Happens}
 use Rattle.rv_machine.specs.Laws.{call_tells, act_tells, tells_of, tells_unless_ended}
 use Rattle.rv_machine.specs.Machine.{step, steps, acted, unless_ended}
 

@@ -6,7 +6,7 @@ use Rattle.bb_watch.specs.declared.event.Event.{Event}
 use Rattle.rv_code.specs.Laws.{ReadsOnly}
 use Rattle.rv_image.specs.declared.image.Image.{Image}
 use Rattle.rv_image.specs.Rules.{IsImage, total_size}
-use Rattle.rv_machine.specs.Blocks.{blocks_from}
+use Rattle.size_table.specs.Made.{blocks_from}
 use Rattle.rv_machine.specs.Changes.{IsOfBlock, IsOfEntry, NoneChanges}
 use Rattle.rv_machine.specs.Environment.{World, with_machine, telling, calls, gets, kind_of, reports, enters, enter_events, leaves, leave_events, made_event, ended_event, new_in, mallocs, malloc_events, Freeing, Nothing, NoBlock, Ends, frees, free_events}
 use Rattle.rv_machine.specs.Formed.{IsFormed}

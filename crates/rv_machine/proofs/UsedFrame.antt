@@ -8,16 +8,18 @@ use Rattle.bb_watch.specs.declared.event.Event.TheVariants.{Access, Made, Ended}
 use Rattle.rv_code.specs.Laws.{ReadsBack}
 use Rattle.rv_code.specs.declared.instr.Instr.TheVariants.{Lw, Sw, Addi}
 use Rattle.rv_image.specs.Rules.{IsImage}
-use Rattle.rv_machine.specs.Blocks.{made, ended}
-use Rattle.rv_machine.specs.Environment.{World, Tell, Happens, events_of, with_machine, calls, exits}
+use Rattle.size_table.specs.Made.{made, ended}
+use Rattle.rv_machine.specs.Environment.{World, with_machine, calls, exits}
+use Rattle.bb_watch.specs.Told.{Tell, Happens, events_of}
 use Rattle.rv_machine.specs.Examples.{uses_frame, UsesFrame}
 use Rattle.rv_machine.specs.Formed.{IsByte, IsWord}
 use Rattle.rv_machine.specs.Frames.{enter, leave}
 use Rattle.rv_machine.specs.Laws.{TextStands}
 use Rattle.rv_machine.specs.Live.{global_blocks}
 use Rattle.rv_machine.specs.Machine.{step, steps, machine_after}
-use Rattle.rv_machine.specs.Memory.{Stand, word_at, written_at}
-use Rattle.rv_machine.specs.Safety.{IsSafe, IsSafeEnding, SafeRun, Each, IsMoveSafe, IsAccessSafe, IsControlSafe, open_after}
+use Rattle.size_table.specs.Memory.{Stand, word_at, written_at}
+use Rattle.bb_watch.specs.Safety.{Each, IsMoveSafe, IsAccessSafe, IsControlSafe, open_after}
+use Rattle.rv_machine.specs.Safety.{IsSafe, IsSafeEnding, SafeRun}
 use Rattle.rv_machine.specs.Start.{start, start_memory, start_registers, start_frames}
 use Rattle.rv_machine.specs.State.{Frames}
 use Rattle.rv_machine.proofs.ExampleRuns.{asked, goes, standing_in}

@@ -5,9 +5,9 @@ use Rattle.bb_words.specs.declared.kinds.ReportKind.TheVariants.{Bounds, Pointer
 use Rattle.bb_words.specs.declared.kinds.TrapKind.TheVariants.{Call}
 use Rattle.bb_watch.specs.declared.event.Event.{Event}
 use Rattle.bb_watch.specs.declared.event.Event.TheVariants.{Made, Ended}
-use Rattle.buddy_heap.specs.Places.{exponent_of, place_of, with_block, block_from, without}
-use Rattle.size_table.specs.Blocks.{Block, block_at}
-use Rattle.rv_machine.specs.Blocks.{made, ended}
+use Rattle.buddy_heap.specs.Places.{exponent_of, place_of, with_block, block_from}
+use Rattle.size_table.specs.Blocks.{Block, block_at, without}
+use Rattle.size_table.specs.Made.{made, ended}
 use Rattle.rv_machine.specs.declared.frames.Entry.{Entry}
 use Rattle.rv_machine.specs.declared.frames.Entry.TheVariants.{NoFrame, TooDeep, NoRoom, Enters}
 use Rattle.rv_machine.specs.declared.stop.Halt.TheVariants.{Exited, Reported, Trapped}

@@ -1,9 +1,11 @@
 -- What holds of every machine that a run of an image comes to.
 use Rattle.std.specs.Prelude.{◌≡◌, ◌==◌, ◌⊎◌, ℕ, ◌+◌, ◌^◌, ◌<◌, ◌≤◌, ◌&&◌, List, [], ◌∷◌, ◌++◌, length, All, if◌then◌else◌}
 use Rattle.rv_image.specs.declared.image.Image.{Image}
-use Rattle.rv_machine.specs.Environment.{World, events_of}
+use Rattle.rv_machine.specs.Environment.{World}
+use Rattle.bb_watch.specs.Told.{events_of}
 use Rattle.rv_machine.specs.Frames.{AreCalls}
-use Rattle.rv_machine.specs.Live.{global_blocks, call_blocks, live_of}
+use Rattle.bb_watch.specs.Live.{live_of}
+use Rattle.rv_machine.specs.Live.{global_blocks, call_blocks}
 use Rattle.rv_machine.specs.State.{Core, register_of, memory_size}
 use Rattle.size_table.specs.Blocks.{Block, IsBlock, AreDisjoint, end_of}
 

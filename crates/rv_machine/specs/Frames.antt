@@ -5,7 +5,7 @@ use Rattle.rv_image.specs.Rules.{total_size}
 use Rattle.rv_machine.specs.declared.frames.Entered.{Entered}
 use Rattle.rv_machine.specs.declared.frames.Entry.{Entry}
 use Rattle.rv_machine.specs.declared.frames.Entry.TheVariants.{NoFrame, TooDeep, NoRoom, Enters}
-use Rattle.rv_machine.specs.Blocks.{all_made, all_ended, blocks_from}
+use Rattle.size_table.specs.Made.{all_made, all_ended, blocks_from}
 use Rattle.rv_machine.specs.State.{Core, Frames}
 
 -- the exponent of a frame's alignment: that of its largest block, which is the first, or of a slot

@@ -13,7 +13,7 @@ use Rattle.rv_code.specs.declared.instr.Instr.{Instr}
 use Rattle.rv_code.specs.declared.instr.Instr.TheVariants.{Lui, Auipc, Jal, Jalr, Beq, Bne, Blt, Bge, Bltu, Bgeu, Lb, Lh, Lw, Lbu, Lhu, Sb, Sh, Sw, Addi, Slti, Sltiu, Xori, Ori, Andi, Slli, Srli, Srai, Add, Sub, Sll, Slt, Sltu, Xor, Srl, Sra, Or, And, Mul, Mulh, Mulhsu, Mulhu, Div, Divu, Rem, Remu, Fence, Ecall, Ebreak}
 use Rattle.rv_machine.specs.declared.stop.Effect.{Effect}
 use Rattle.rv_machine.specs.declared.stop.Effect.TheVariants.{Went, Trapped, Asked}
-use Rattle.rv_machine.specs.Memory.{half_at, word_at, written_at}
+use Rattle.size_table.specs.Memory.{half_at, word_at, written_at}
 use Rattle.rv_machine.specs.State.{Core, register_of, set_register, next, gives, with_memory}
 
 -- what an instruction leads to: a core, a trap, or a question to the environment

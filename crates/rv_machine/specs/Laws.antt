@@ -7,16 +7,18 @@ use Rattle.rv_image.specs.declared.image.Image.{Image}
 use Rattle.rv_image.specs.Rules.{IsImage}
 use Rattle.rv_machine.specs.declared.stop.Halt.{Halt}
 use Rattle.rv_machine.specs.Changes.{NoneChanges, IsMadeIn, AreOffTable}
-use Rattle.rv_machine.specs.Environment.{Tell, Output, Happens, World, malloc_events, free_events, enter_events, leave_events, events_of}
+use Rattle.rv_machine.specs.Environment.{World, malloc_events, free_events, enter_events, leave_events}
+use Rattle.bb_watch.specs.Told.{Tell, Output, Happens, events_of}
 use Rattle.rv_machine.specs.Formed.{IsWord, IsByte, IsCore, IsFormed, AreLaidOut, live_in}
 use Rattle.rv_machine.specs.Instruction.{Act, Goes, Traps, Asks, core_step, core_events, instruction_at, effect, event_of}
 use Rattle.rv_machine.specs.Live.{global_blocks}
 use Rattle.rv_machine.specs.Machine.{step, steps, machine_after}
-use Rattle.rv_machine.specs.Memory.{word_at, written_at, bytes_of_words, Stand}
-use Rattle.rv_machine.specs.Safety.{Each, IsAccessSafe, IsControlSafe, IsSafe, SafeRun, table_in}
+use Rattle.size_table.specs.Memory.{word_at, written_at, bytes_of_words, Stand}
+use Rattle.bb_watch.specs.Safety.{Each, IsAccessSafe, IsControlSafe}
+use Rattle.rv_machine.specs.Safety.{IsSafe, SafeRun}
 use Rattle.rv_machine.specs.Start.{start_memory}
 use Rattle.rv_machine.specs.State.{Core, State, register_of}
-use Rattle.size_table.specs.Table.{IsTableOf}
+use Rattle.size_table.specs.Table.{IsTableOf, table_in}
 
 -- a machine that has ended stays as it is
 abbrev pub EndingStays : Type 0

@@ -4,10 +4,9 @@ use Rattle.bb_watch.specs.declared.event.Event.{Event}
 use Rattle.bb_watch.specs.declared.event.Event.TheVariants.{Made, Ended}
 use Rattle.rv_image.specs.declared.image.Image.{Image}
 use Rattle.rv_machine.specs.declared.frames.Entered.{Entered}
-use Rattle.rv_machine.specs.Blocks.{blocks_from}
+use Rattle.size_table.specs.Made.{blocks_from}
 use Rattle.rv_machine.specs.Frames.{stack_under}
-use Rattle.buddy_heap.specs.Places.{without}
-use Rattle.size_table.specs.Blocks.{Block, block_at, holds}
+use Rattle.size_table.specs.Blocks.{Block, block_at, holds, without}
 
 -- the blocks of the global objects, which are live from the start on
 abbrev pub global_blocks : Image → List Block

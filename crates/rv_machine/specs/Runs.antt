@@ -13,7 +13,8 @@ use Rattle.rv_machine.specs.declared.stop.Effect.{Effect}
 use Rattle.rv_machine.specs.declared.stop.Effect.TheVariants as effect
 use Rattle.rv_machine.specs.State.{Core, Frames, State}
 use Rattle.rv_machine.specs.Instruction.{Traps, Asks, core_step}
-use Rattle.rv_machine.specs.Environment.{World, Tell, output_of}
+use Rattle.rv_machine.specs.Environment.{World}
+use Rattle.bb_watch.specs.Told.{Tell, output_of}
 use Rattle.rv_machine.specs.Machine.{steps, IsBeforeCall}
 use Rattle.size_table.specs.Blocks.{Block}
 

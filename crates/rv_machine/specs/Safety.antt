@@ -6,8 +6,11 @@ use Rattle.bb_watch.specs.declared.event.Event.TheVariants.{Move, Access, Call, 
 use Rattle.rv_image.specs.declared.image.Image.{Image}
 use Rattle.rv_machine.specs.declared.stop.Halt.{Halt}
 use Rattle.rv_machine.specs.declared.stop.Halt.TheVariants.{Trapped}
-use Rattle.rv_machine.specs.Environment.{World, events_of}
-use Rattle.rv_machine.specs.Live.{global_blocks, live_after, ever_after, live_of, holder, owner, unmarked}
+use Rattle.rv_machine.specs.Environment.{World}
+use Rattle.bb_watch.specs.Told.{events_of}
+use Rattle.marked_ptr.specs.Marked.{unmarked}
+use Rattle.bb_watch.specs.Live.{live_after, ever_after, live_of, holder, owner}
+use Rattle.rv_machine.specs.Live.{global_blocks}
 use Rattle.rv_machine.specs.Machine.{machine_after}
 use Rattle.size_table.specs.Blocks.{Block, end_of}
 use Rattle.size_table.specs.Table.{IsTableOf, table_size}

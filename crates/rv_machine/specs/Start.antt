@@ -2,7 +2,7 @@
 use Rattle.std.specs.Prelude.{ℕ, List, [], replicate, slice_set, None}
 use Rattle.rv_image.specs.declared.image.Image.{Image}
 use Rattle.rv_machine.specs.State.{Frames, State, memory_size}
-use Rattle.rv_machine.specs.Memory.{written_at, bytes_of_words, table_bytes}
+use Rattle.size_table.specs.Memory.{written_at, bytes_of_words, table_bytes}
 
 -- zeros, but for the text at 0x1000, the bytes of the size table for the global blocks, which lie from 0xA00000 on,
 -- and the initial bytes there

@@ -40,8 +40,8 @@ impl Model for Core {
 impl Core {
     ghost use Rattle.size_table.specs.Blocks.{Block, IsBlock, block_at};
     ghost use Rattle.size_table.specs.Table.{filled};
-    ghost use Rattle.rv_machine.specs.Blocks.{made, ended};
-    ghost use Rattle.rv_machine.specs.Memory.{half_at, word_at};
+    ghost use Rattle.size_table.specs.Made.{made, ended};
+    ghost use Rattle.size_table.specs.Memory.{half_at, word_at};
     ghost use Rattle.rv_machine.specs.State.{register_of, set_register, next, gives, with_memory};
     ghost use Rattle.rv_machine.specs.Instruction.{address, loads, stores, jumps, links, branches, effect, core_step, Does};
     ghost use Rattle.rv_machine.specs.Start.{start};
@@ -445,7 +445,7 @@ impl Core {
     }
 
     /// Makes a block: its bytes are zero, and the size table has its exponent.
-    #[tactic(auto, unfolding(crate::specs::Blocks::made))]
+    #[tactic(auto, unfolding(size_table::specs::Made::made))]
     pub(crate) fn make(&mut self, base: u32, exponent: u8)
         requires { IsBlock 4 (block_at base exponent) }
         ensures { self.new ≡ with_memory (made (block_at base exponent) self.old.memory) self.old }
@@ -455,7 +455,7 @@ impl Core {
     }
 
     /// Ends a block: the size table has 0 for it, and its bytes stay.
-    #[tactic(auto, unfolding(crate::specs::Blocks::ended))]
+    #[tactic(auto, unfolding(size_table::specs::Made::ended))]
     pub(crate) fn end(&mut self, base: u32, exponent: u8)
         requires { IsBlock 4 (block_at base exponent) }
         ensures { self.new ≡ with_memory (ended (block_at base exponent) self.old.memory) self.old }

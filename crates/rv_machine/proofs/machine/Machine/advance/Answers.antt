@@ -1,8 +1,7 @@
-use Rattle.std.proofs.Common.{ap, sym, subst, ◌∙◌}
+use Rattle.std.proofs.Common.{ap, sym, subst, ◌∙◌, ◌+◌, Some}
 use Rattle.rv_machine.specs.State.{State}
 use Rattle.rv_machine.specs.Runs.{Shown, Ran, Advanced}
 use Rattle.rv_machine.specs.Machine.{steps}
-use Rattle.std.proofs.Common.{◌+◌, Some}
 use Rattle.rv_machine.proofs.Pauses.{paused_traps, paused_calls, paused_fails}
 use Rattle.rv_machine.proofs.machine.Machine.advance.Goals as goal
 
