@@ -61,7 +61,7 @@ asked back w at = step_acts w Asks at.running (does_instr back w.machine.core Ec
 -- a machine with these frames, that has not ended
 abbrev pub standing_in : Frames → (pc : ℕ) → (registers memory input : List ℕ) → List Tell → World
 standing_in frames pc registers memory input told = record {
-  machine = record { core = record { pc = pc; registers = registers; memory = memory }; frames = frames; ending = None };
+  machine = record { core = record { pc = pc; registers = registers; memory = memory }; frames = frames; heap = []; ending = None };
   left = input;
   told = told;
 }

@@ -2,6 +2,7 @@ pub mod Steps
 pub mod Outside
 pub mod Calls
 pub mod Runs
+pub mod Pauses
 pub mod Tables
 pub mod Programs
 pub mod Layouts
@@ -26,3 +27,6 @@ pub mod SafeRuns
 pub mod ExampleRuns
 pub mod UsedBlock
 pub mod UsedFrame
+pub mod SameBlocks
+pub mod EndedLists
+pub mod HeapLaws

@@ -11,7 +11,7 @@ use Rattle.rv_image.specs.Rules.{IsImage}
 use Rattle.rv_machine.specs.declared.stop.Halt.{Halt}
 use Rattle.size_table.specs.Made.{blocks_from}
 use Rattle.rv_machine.specs.Changes.{IsOffTable, AreOffTable}
-use Rattle.rv_machine.specs.Environment.{World, enter_events, leave_events, leaving, made_event, ended_event}
+use Rattle.rv_machine.specs.Environment.{World, enter_events, leave_events, leaving, made_event, ended_event, new_in, blocks_if, malloc_events, free_events, freed_blocks, freeing}
 use Rattle.bb_watch.specs.Told.{Tell, Happens, events_of}
 use Rattle.rv_machine.specs.Formed.{IsByte, live_in}
 use Rattle.rv_machine.specs.Frames.{Entering, stack_under}
@@ -24,6 +24,8 @@ use Rattle.rv_machine.specs.Machine.{steps, machine_after}
 use Rattle.rv_machine.specs.Safety.{IsSafe, IsSafeEnding, SafeRun}
 use Rattle.rv_machine.specs.Start.{start}
 use Rattle.rv_machine.specs.State.{Core, State, register_of}
+use Rattle.rv_machine.proofs.Forms.{new_room}
+use Rattle.rv_machine.proofs.HeapLaws.{HeapLaws}
 use Rattle.rv_machine.proofs.Cases.{by_entering}
 use Rattle.rv_machine.proofs.LiveLists.{events_append, events_happen}
 use Rattle.rv_machine.proofs.TableLaws.{steps_table}
@@ -134,6 +136,14 @@ enter_high s =
       enters = λ es layout few room. made_high es (stack_under s.frames.stack es) (omega (arith, room));
     })
 
+malloc_high : HeapLaws → (s : State) → MakeHigh (malloc_events s)
+unfolding MakeHigh MakesHigh
+malloc_high laws s = by (new_in s) refl
+  where
+    by : (o : Option Block) → new_in s ≡ o → MakeHigh (map made_event (blocks_if o))
+    by None e = tt
+    by (Some b) e = let r = new_room laws (register_of s.core 10) s.heap b e in let low = r.2.low in (omega (arith, low), tt)
+
 tell_if : (b : Bool) (xs ys : List Tell) → MakeHigh (events_of xs) → MakeHigh (events_of ys) → MakeHigh (events_of (cond b xs ys))
 tell_if true xs ys p q = p
 tell_if false xs ys p q = q
@@ -141,30 +151,30 @@ tell_if false xs ys p q = q
 happen_high : (events : List Event) → MakeHigh events → MakeHigh (events_of (map Happens events))
 happen_high events h = subst MakeHigh (sym (events_happen events)) h
 
-call_high : (s : State) → MakeHigh (events_of (call_tells s))
+call_high : HeapLaws → (s : State) → MakeHigh (events_of (call_tells s))
 unfolding MakeHigh
-call_high s =
+call_high laws s =
     let n = register_of s.core 17 in
-    tell_if (eqb n 3) _ _ tt (tell_if (eqb n 7) _ _ (happen_high (enter_events s) (enter_high s)) (tell_if (eqb n 8) _ _ (happen_high (leave_events s) (ended_high (leaving s).blocks)) tt))
+    tell_if (eqb n 3) _ _ tt (tell_if (eqb n 4) _ _ (happen_high (malloc_events s) (malloc_high laws s)) (tell_if (eqb n 5) _ _ (happen_high (free_events s) (ended_high (freed_blocks (freeing s)))) (tell_if (eqb n 7) _ _ (happen_high (enter_events s) (enter_high s)) (tell_if (eqb n 8) _ _ (happen_high (leave_events s) (ended_high (leaving s).blocks)) tt))))
 
-act_high : (act : Act) (s : State) → MakeHigh (events_of (act_tells act s))
+act_high : HeapLaws → (act : Act) (s : State) → MakeHigh (events_of (act_tells act s))
 unfolding MakeHigh
-act_high (Goes core) s = happen_high (core_events s.core) (core_high s.core)
-act_high (Traps kind) s = tt
-act_high Asks s = call_high s
+act_high laws (Goes core) s = happen_high (core_events s.core) (core_high s.core)
+act_high laws (Traps kind) s = tt
+act_high laws Asks s = call_high laws s
 
-unless_high : (ending : Option Halt) (s : State) → MakeHigh (events_of (tells_unless_ended ending s))
+unless_high : HeapLaws → (ending : Option Halt) (s : State) → MakeHigh (events_of (tells_unless_ended ending s))
 unfolding MakeHigh
-unless_high None s = act_high (core_step s.core) s
-unless_high (Some halt) s = tt
+unless_high laws None s = act_high laws (core_step s.core) s
+unless_high laws (Some halt) s = tt
 
-steps_high : (n : ℕ) (w : World) → MakeHigh (events_of w.told) → MakeHigh (events_of (steps n w).told)
+steps_high : HeapLaws → (n : ℕ) (w : World) → MakeHigh (events_of w.told) → MakeHigh (events_of (steps n w).told)
 unfolding steps
-steps_high zero w h = h
-steps_high (suc n) w h =
+steps_high laws zero w h = h
+steps_high laws (suc n) w h =
     let v = steps n w in
     subst MakeHigh (sym (ap events_of (step_told v) ∙ events_append v.told (tells_of v.machine)))
-    (make_append (events_of v.told) (events_of (tells_of v.machine)) (steps_high n w h) (unless_high v.machine.ending v.machine))
+    (make_append (events_of v.told) (events_of (tells_of v.machine)) (steps_high laws n w h) (unless_high laws v.machine.ending v.machine))
 
 -- ---- Blocks that live
 
@@ -249,7 +259,7 @@ table_is_kept below image input n h initial bytes access control =
     let w : World = record { machine = start image; left = input; told = [] } in
     let globals = global_blocks image in
     let high = high_from image.globals 10485760 (lit≤ tt) in
-    let off = events_off (events_of (steps n w).told) globals globals (steps_high n w tt) high high access control in
+    let off = events_off (events_of (steps n w).told) globals globals (steps_high below.heap n w tt) high high access control in
     steps_table n below image w h (start_formed image input h initial bytes) (start_has_table below image input h initial) off
 
 -- ---- Earlier in a run

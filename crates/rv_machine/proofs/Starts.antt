@@ -9,7 +9,7 @@ use Rattle.std.proofs.lemmas.Nat.{pow-add}
 use Rattle.rv_image.specs.declared.image.Image.{Image}
 use Rattle.rv_image.specs.Rules.{IsImage, Decline}
 use Rattle.size_table.specs.Made.{tabled, blocks_from}
-use Rattle.rv_machine.specs.Formed.{IsWord, IsByte, IsCore, IsFormed, live_in}
+use Rattle.rv_machine.specs.Formed.{IsWord, IsByte, IsCore, IsFormed, live_in, IsInHeap, count_in}
 use Rattle.rv_machine.specs.Live.{global_blocks}
 use Rattle.size_table.specs.Memory.{word_at, written_at, bytes_of_words, table_bytes, Stand}
 use Rattle.rv_machine.specs.Start.{start, start_memory, start_registers}
@@ -178,7 +178,8 @@ start_formed image input h b i = record {
   layouts = refl;
   calls = refl;
   few = omega arith;
-  live = sym (append-nil (global_blocks image));
+  heap = record { each = All-nil (IsBlock 4); within = All-nil IsInHeap; disjoint = tt };
+  live = λ b. ap (count_in b) (sym (append-nil (global_blocks image)));
 }
 
 pub start_byte : (image : Image) (at : ℕ) → get_or (start image).core.memory at 0 ≡ get_or (start_memory image) at 0

@@ -7,7 +7,7 @@ use Rattle.rv_image.specs.declared.image.Image.{Image}
 use Rattle.rv_image.specs.Rules.{IsImage}
 use Rattle.rv_machine.specs.declared.stop.Halt.{Halt}
 use Rattle.rv_machine.specs.Changes.{NoneChanges, IsMadeIn, AreOffTable}
-use Rattle.rv_machine.specs.Environment.{World, enter_events, leave_events}
+use Rattle.rv_machine.specs.Environment.{World, enter_events, leave_events, malloc_events, free_events}
 use Rattle.bb_watch.specs.Told.{Tell, Output, Happens, events_of}
 use Rattle.rv_machine.specs.Formed.{IsWord, IsByte, IsCore, IsFormed, AreLaidOut, live_in}
 use Rattle.rv_machine.specs.Instruction.{Act, Goes, Traps, Asks, core_step, core_events, instruction_at, effect, event_of}
@@ -24,10 +24,12 @@ use Rattle.size_table.specs.Table.{IsTableOf, table_in}
 abbrev pub EndingStays : Type 0
 EndingStays = (n k : ℕ) (w : World) → IsSome (steps k w).machine.ending → k ≤ n → steps n w ≡ steps k w
 
--- what an environment call tells: putchar its byte, and enter and leave the blocks that they make and end
+-- what an environment call tells: putchar its byte, and the others the blocks that they make and end
 abbrev pub call_tells : State → List Tell
 call_tells s =
     if register_of s.core 17 == 3 then Output (register_of s.core 10 % 256) ∷ []
+    else if register_of s.core 17 == 4 then map Happens (malloc_events s)
+    else if register_of s.core 17 == 5 then map Happens (free_events s)
     else if register_of s.core 17 == 7 then map Happens (enter_events s)
     else if register_of s.core 17 == 8 then map Happens (leave_events s)
     else []

@@ -22,5 +22,6 @@ unfoldable pub start : Image → State
 start image = record {
   core = record { pc = image.entry; registers = start_registers; memory = start_memory image };
   frames = start_frames image.frames;
+  heap = [];
   ending = None;
 }

@@ -63,6 +63,8 @@ pub fn form_stays()
     ensures { FormStays }
 {
     rv_code::laws::reads_only();
+    buddy_heap::laws::place_is_least();
+    buddy_heap::laws::exponent_fits();
 }
 
 /// So this holds after each instruction of every run of an image.
@@ -70,6 +72,8 @@ pub fn runs_are_formed()
     ensures { RunsAreFormed }
 {
     rv_code::laws::reads_only();
+    buddy_heap::laws::place_is_least();
+    buddy_heap::laws::exponent_fits();
 }
 
 /// The live blocks are aligned to their size and lie in their regions, and no two of them meet.
@@ -81,18 +85,26 @@ pub fn live_are_laid_out()
 /// writes to blocks that it makes and to the size table.
 pub fn only_told_change()
     ensures { OnlyToldChange }
-{}
+{
+    buddy_heap::laws::place_is_least();
+    buddy_heap::laws::exponent_fits();
+}
 
 /// The bytes of a block that was made are zero.
 pub fn made_is_zero()
     ensures { MadeIsZero }
-{}
+{
+    buddy_heap::laws::place_is_least();
+    buddy_heap::laws::exponent_fits();
+}
 
 /// The text's region stays as it was at the start.
 pub fn text_stays()
     ensures { TextStays }
 {
     rv_code::laws::reads_only();
+    buddy_heap::laws::place_is_least();
+    buddy_heap::laws::exponent_fits();
 }
 
 /// The words of an image's text stand in memory from 0x1000 on, in every run.
@@ -100,6 +112,8 @@ pub fn text_stands()
     ensures { TextStands }
 {
     rv_code::laws::reads_only();
+    buddy_heap::laws::place_is_least();
+    buddy_heap::laws::exponent_fits();
 }
 
 /// The size table is that of the live blocks, before and after an instruction that does not itself write to it.
@@ -110,6 +124,8 @@ pub fn table_follows()
     size_table::laws::block_is_marked();
     size_table::laws::marking_adds();
     size_table::laws::marking_removes();
+    buddy_heap::laws::place_is_least();
+    buddy_heap::laws::exponent_fits();
 }
 
 /// So it is in every run of a program that never writes to it.
@@ -120,6 +136,8 @@ pub fn runs_have_table()
     size_table::laws::block_is_marked();
     size_table::laws::marking_adds();
     size_table::laws::marking_removes();
+    buddy_heap::laws::place_is_least();
+    buddy_heap::laws::exponent_fits();
 }
 
 /// A run whose accesses are safe, and that keeps control, has the size table of the live blocks.
@@ -130,6 +148,8 @@ pub fn table_is_kept()
     size_table::laws::block_is_marked();
     size_table::laws::marking_adds();
     size_table::laws::marking_removes();
+    buddy_heap::laws::place_is_least();
+    buddy_heap::laws::exponent_fits();
 }
 
 /// A run that is safe at its end is safe.
@@ -140,4 +160,6 @@ pub fn safe_at_end()
     size_table::laws::block_is_marked();
     size_table::laws::marking_adds();
     size_table::laws::marking_removes();
+    buddy_heap::laws::place_is_least();
+    buddy_heap::laws::exponent_fits();
 }

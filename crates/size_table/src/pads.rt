@@ -1,0 +1,21 @@
+//! The block that has room for an object.
+ghost use Rattle.std.specs.Prelude.{◌≡◌, ◌≤◌};
+ghost use Rattle.size_table.specs.Exponents.{exponent_of, IsLeastExponent};
+
+use crate::memory_map::MOST_BYTES;
+
+/// The exponent of the least power of two that is at least `size`, and at least the 16 bytes of a slot.
+pub fn exponent(size: u32) -> u8
+    requires { size ≤ MOST_BYTES }
+    ensures value { result ≡ exponent_of 4 size }
+    ensures least { IsLeastExponent 4 size result }
+{
+    let mut e = 4;
+    while e < 24 {
+        if size <= 1 << e {
+            return e;
+        }
+        e += 1;
+    }
+    e
+}
