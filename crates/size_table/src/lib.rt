@@ -9,7 +9,7 @@
 pub mod calls;
 pub mod laws;
 pub mod memory_map;
-pub mod pads;
+pub mod padding;
 
 ghost use Rattle.std.specs.Prelude.{◌≡◌, ℕ, ◌/◌, ◌^◌, ◌<◌, ◌≤◌, List, length, slice_index};
 ghost use Rattle.size_table.specs.Blocks.{IsBlock, block_at};

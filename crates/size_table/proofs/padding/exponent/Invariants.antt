@@ -1,6 +1,6 @@
 use Rattle.std.proofs.Common.{◌≡◌, ◌-◌, ◌≤◌}
-use Rattle.size_table.specs.Exponents.{exponent_from, exponent_of}
-use Rattle.size_table.proofs.pads.exponent.Given as goal
+use Rattle.size_table.specs.Pads.{exponent_from, exponent_of}
+use Rattle.size_table.proofs.padding.exponent.Given as goal
 
 abbrev pub invariant-loop-e : goal.invariant-loop-e
 invariant-loop-e l = record {

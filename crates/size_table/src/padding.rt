@@ -1,6 +1,6 @@
-//! The block that has room for an object.
+//! Padded sizes.
 ghost use Rattle.std.specs.Prelude.{◌≡◌, ◌≤◌};
-ghost use Rattle.size_table.specs.Exponents.{exponent_of, IsLeastExponent};
+ghost use Rattle.size_table.specs.Pads.{exponent_of, IsExponentOf};
 
 use crate::memory_map::MOST_BYTES;
 
@@ -8,7 +8,8 @@ use crate::memory_map::MOST_BYTES;
 pub fn exponent(size: u32) -> u8
     requires { size ≤ MOST_BYTES }
     ensures value { result ≡ exponent_of 4 size }
-    ensures least { IsLeastExponent 4 size result }
+    ensures most { result ≤ 24 }
+    ensures least { IsExponentOf 4 size result }
 {
     let mut e = 4;
     while e < 24 {

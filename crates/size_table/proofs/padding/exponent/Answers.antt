@@ -1,7 +1,7 @@
 use Rattle.std.proofs.Common.{refl, arith}
-use Rattle.size_table.specs.Exponents.{exponent_of}
+use Rattle.size_table.specs.Pads.{exponent_of}
 use Rattle.size_table.proofs.Exponents.{exponent_more, exponent_found, exponent_last, least_at, size_is}
-use Rattle.size_table.proofs.pads.exponent.Goals as goal
+use Rattle.size_table.proofs.padding.exponent.Goals as goal
 
 pub loop-e-init : goal.loop-e-init
 unfolding exponent_of
