@@ -1,12 +1,11 @@
 -- Lists of bases and exponents.
-use Rattle.std.proofs.Common.{◌≡◌, ◌≢◌, ◌⊎◌, ℕ, zero, suc, ◌+◌, ◌-◌, ◌*◌, ◌/◌, ◌%◌, ◌^◌, ◌<◌, ◌≤◌, Bool, true, false, cond, eqb, ltb, leb, List, [], ◌∷◌, length, get_or, Option, Some, None, refl, sym, ap, subst, ◌∙◌, inl, inr, arith}
+use Rattle.std.proofs.Common.{◌≡◌, ℕ, zero, suc, ◌+◌, ◌-◌, ◌*◌, ◌%◌, ◌^◌, ◌<◌, ◌≤◌, Bool, true, false, cond, eqb, ltb, List, [], ◌∷◌, length, get_or, Option, Some, None, refl, sym, ap, subst, ◌∙◌, inl, inr, arith}
 use Rattle.std.specs.List.{insert, remove}
-use Rattle.std.proofs.lemmas.Bool.{ltb-true, ltb-false, eqb-true, leb-true, leb-false}
-use Rattle.std.proofs.lemmas.Bool.Decides.{nat_tests}
+use Rattle.std.proofs.lemmas.Bool.{ltb-true, ltb-false, eqb-true}
 use Rattle.std.proofs.lemmas.Nat.{pow_pos, pow-add}
 use Rattle.std.proofs.Math.Pow.{pow_mono}
 use Rattle.std.proofs.lemmas.Option.{same_Some, none-some}
-use Rattle.size_table.specs.Blocks.{Block, block_at, end_of, without, IsBlock, MissEachOther, MissesAll}
+use Rattle.size_table.specs.Blocks.{Block, block_at, without, IsBlock, MissEachOther, MissesAll}
 use Rattle.buddy_heap.specs.Places.{IsRoom, IsPlaceOf, is_clear, first_of, place_of, with_block, block_from, blocks_of, AreBlocks, LieInOrder, count_to, next_index, index_of}
 use Rattle.buddy_heap.proofs.Places.{whole, place_least}
 
@@ -130,6 +129,7 @@ found at i (p ∷ ps) a e = by (eqb p.0 at) refl (λ (j : ℕ) (f : index_of at 
     next : (o : Option ℕ) → next_index o ≡ Some i → (j : ℕ) × (o ≡ Some j) × (suc j ≡ i)
     next None f = absurd (none-some _ f)
     next (Some j) f = (j, refl, same_Some (suc j) i f)
+
     by : (t : Bool) → eqb p.0 at ≡ t → ((j : ℕ) → index_of at ps ≡ Some j → IsFound at j ps) → cond t (Some 0) (next_index (index_of at ps)) ≡ Some i → IsFound at i (p ∷ ps)
     by true t rest f =
         let z : 0 ≡ i = same_Some 0 i f in
@@ -157,6 +157,7 @@ not_found at (p ∷ ps) e = by (eqb p.0 at) refl (not_found at ps) e
     next : (o : Option ℕ) → next_index o ≡ None → o ≡ None
     next None f = refl
     next (Some j) f = absurd (none-some _ (sym f))
+
     by : (t : Bool) → eqb p.0 at ≡ t → (index_of at ps ≡ None → block_from at (blocks_of ps) ≡ None) → cond t (Some 0) (next_index (index_of at ps)) ≡ None → cond t (Some (block_at p.0 p.1)) (block_from at (blocks_of ps)) ≡ None
     by true t rest f = absurd (none-some _ (sym f))
     by false t rest f = rest (next (index_of at ps) f)

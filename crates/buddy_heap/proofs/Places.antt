@@ -1,5 +1,5 @@
 -- The first clear place is the least one.
-use Rattle.std.proofs.Common.{◌≡◌, ◌≢◌, ◌⊎◌, ℕ, zero, suc, ◌+◌, ◌-◌, ◌*◌, ◌/◌, ◌%◌, ◌^◌, ◌<◌, ◌≤◌, Bool, true, false, ◌&&◌, ◌||◌, cond, leb, List, [], ◌∷◌, Option, Some, None, refl, sym, ap, subst, ◌∙◌, inl, inr, arith, mul_assoc}
+use Rattle.std.proofs.Common.{◌≡◌, ℕ, zero, suc, ◌+◌, ◌-◌, ◌*◌, ◌/◌, ◌%◌, ◌^◌, ◌<◌, ◌≤◌, Bool, true, false, ◌&&◌, ◌||◌, cond, leb, List, [], ◌∷◌, Option, Some, None, refl, sym, ap, subst, ◌∙◌, inl, inr, arith}
 use Rattle.std.proofs.lemmas.Bool.{leb-true, leb-false}
 use Rattle.std.proofs.lemmas.Nat.{pow_pos, pow-add, shr_split, mod_low}
 use Rattle.size_table.specs.Blocks.{Block, block_at, end_of, MissEachOther, MissesAll}
@@ -49,6 +49,7 @@ next_multiple p q e a b l =
     grows : (x y n : ℕ) → x ≤ y → x * n ≤ y * n
     grows x y zero h = omega arith
     grows x y (suc n) h = let r = grows x y n h in omega (arith, r, h)
+
     by : (p q e : ℕ) → p / 2 ^ e * 2 ^ e + p % 2 ^ e ≡ p → q / 2 ^ e * 2 ^ e + q % 2 ^ e ≡ q → p % 2 ^ e ≡ 0 → q % 2 ^ e ≡ 0 → p < q → p / 2 ^ e < q / 2 ^ e
     by p q e s t a b l = at (leb (q / 2 ^ e) (p / 2 ^ e)) refl
       where
@@ -79,6 +80,7 @@ least_from (suc places) p e bs low a sum before =
         let same : q ≡ p = omega (arith, le, ge) in
         absurd (meets (block_at p e) bs c (subst (λ (k : ℕ). MissesAll (block_at k e) bs) same r.clear))
     higher c q r false y = next_multiple p q e a r.aligned (leb-false q p y)
+
     by : (((q : ℕ) → IsRoom bs e q → p + 2 ^ e ≤ q) → IsPlaceOf bs e (first_of places (p + 2 ^ e) e bs)) → (clear : Bool) → is_clear (block_at p e) bs ≡ clear → IsPlaceOf bs e (cond clear (Some p) (first_of places (p + 2 ^ e) e bs))
     by rest true c = (record { low = low; high = omega (arith, sum); aligned = a; clear = clear_by (block_at p e) bs c }, before)
     by rest false c = rest (λ q r. higher c q r (leb q p) refl)

@@ -1,5 +1,5 @@
 -- What holds of every machine of an image stays so.
-use Rattle.std.proofs.Common.{◌≡◌, ℕ, zero, suc, ◌+◌, ◌-◌, ◌%◌, ◌<◌, ◌≤◌, List, [], ◌∷◌, ◌++◌, length, take, Option, Some, None, Bool, true, false, cond, eqb, ltb, refl, sym, ap, subst, ◌∙◌, inl, inr, arith, lit<, lit≤, append-nil, append_assoc, length-append}
+use Rattle.std.proofs.Common.{◌≡◌, ℕ, zero, suc, ◌+◌, ◌-◌, ◌%◌, ◌<◌, ◌≤◌, List, [], ◌∷◌, ◌++◌, length, take, Option, Some, None, Bool, true, false, cond, eqb, ltb, refl, sym, ap, subst, ◌∙◌, inl, inr, arith, lit<, lit≤, append-nil, length-append}
 use Rattle.std.specs.Prelude.{All, map, reverse, slice_get}
 use Rattle.std.proofs.lemmas.Bool.{ltb-false}
 use Rattle.std.proofs.lemmas.Nat.{pow_pos}
@@ -19,7 +19,8 @@ use Rattle.size_table.specs.Made.{blocks_from, all_made, all_ended, made, ended}
 use Rattle.rv_machine.specs.Environment.{World, with_machine, exits, gets, gets_from, puts, kind_of, reported, reported_if, reports, enters, enters_by, enter_events, leaves, leaves_by, leave_events, made_event, ended_event, calls, telling, new_block, block_of, new_in, blocks_if, mallocs_by, mallocs, malloc_events, Freeing, Nothing, NoBlock, Ends, freeing_if, freeing, frees_by, frees, freed_blocks, free_events}
 use Rattle.bb_watch.specs.Told.{Tell, Output, Happens, events_of}
 use Rattle.rv_machine.specs.Formed.{IsByte, IsCore, AreLaidOut, IsInRegion, IsFormed, live_in, IsInHeap, IsHeap, count_in, SameBlocks}
-use Rattle.buddy_heap.specs.Places.{IsRoom, IsPlaceOf, exponent_of, place_of, with_block, block_from}
+use Rattle.size_table.specs.Pads.{exponent_of}
+use Rattle.buddy_heap.specs.Places.{IsRoom, IsPlaceOf, place_of, with_block, block_from}
 use Rattle.rv_machine.specs.Frames.{Entering, Leaving, last_entered, stack_under, IsCall, AreCalls}
 use Rattle.rv_machine.specs.Instruction.{Goes, core_step, core_events}
 use Rattle.bb_watch.specs.Live.{live_of}
@@ -336,15 +337,17 @@ pub new_room : HeapLaws → (size : ℕ) (heap : List Block) (b : Block) → new
 unfolding new_block
 new_room laws size heap b e = by (ltb 16777216 size) refl e
   where
-    placed : size ≤ 16777216 → (p : Option ℕ) → place_of heap (exponent_of size) ≡ p → block_of (exponent_of size) p ≡ Some b → (4 ≤ b.exponent) × (b.exponent ≤ 24) × IsRoom heap b.exponent b.base
+    placed : size ≤ 16777216 → (p : Option ℕ) → place_of heap (exponent_of 4 size) ≡ p → block_of (exponent_of 4 size) p ≡ Some b → (4 ≤ b.exponent) × (b.exponent ≤ 24) × IsRoom heap b.exponent b.base
     placed l None p e = absurd (none-some _ e)
     placed l (Some at) p e =
-        let fits = laws.exponent size l in
-        let least = subst (IsPlaceOf heap (exponent_of size)) p (laws.place heap (exponent_of size) fits.1) in
-        subst (λ (c : Block). (4 ≤ c.exponent) × (c.exponent ≤ 24) × IsRoom heap c.exponent c.base) (same_Some (block_at at (exponent_of size)) b e) (fits.0, fits.1, least.0)
-    by : (t : Bool) → ltb 16777216 size ≡ t → cond t None (block_of (exponent_of size) (place_of heap (exponent_of size))) ≡ Some b → (4 ≤ b.exponent) × (b.exponent ≤ 24) × IsRoom heap b.exponent b.base
+        let fits = laws.exponent 4 size (omega arith) l in
+        let most = fits.least 24 (omega arith) l in
+        let least = subst (IsPlaceOf heap (exponent_of 4 size)) p (laws.place heap (exponent_of 4 size) most) in
+        subst (λ (c : Block). (4 ≤ c.exponent) × (c.exponent ≤ 24) × IsRoom heap c.exponent c.base) (same_Some (block_at at (exponent_of 4 size)) b e) (fits.slot, most, least.0)
+
+    by : (t : Bool) → ltb 16777216 size ≡ t → cond t None (block_of (exponent_of 4 size) (place_of heap (exponent_of 4 size))) ≡ Some b → (4 ≤ b.exponent) × (b.exponent ≤ 24) × IsRoom heap b.exponent b.base
     by true t e = absurd (none-some _ e)
-    by false t e = placed (ltb-false 16777216 size t) (place_of heap (exponent_of size)) refl e
+    by false t e = placed (ltb-false 16777216 size t) (place_of heap (exponent_of 4 size)) refl e
 
 pub is_new : HeapLaws → (image : Image) (w : World) (b : Block) → IsImage image → IsFormed image w → new_in w.machine ≡ Some b → IsNew image w b
 is_new laws image w b h f e =
@@ -360,12 +363,12 @@ is_new laws image w b h f e =
     let parts = laid_out image h s.frames.stack (call_blocks image.frames calls) (with_block b s.heap) (stack_high image.frames calls 16777216 s.frames.stack (lit≤ tt) f.calls) stacked heap in
     let same : SameBlocks (live_in image w ++ b ∷ []) (global_blocks image ++ (call_blocks image.frames calls ++ with_block b s.heap)) =
     λ c.
-        let one = count_append c (live_in image w) (b ∷ []) in
-        let two = count_parts c (global_blocks image) (call_blocks image.frames calls) s.heap in
-        let three = count_parts c (global_blocks image) (call_blocks image.frames calls) (with_block b s.heap) in
-        let four = count_with b c s.heap in
-        let all = f.live c in
-        omega (arith, one, two, three, four, all) in
+    let one = count_append c (live_in image w) (b ∷ []) in
+    let two = count_parts c (global_blocks image) (call_blocks image.frames calls) s.heap in
+    let three = count_parts c (global_blocks image) (call_blocks image.frames calls) (with_block b s.heap) in
+    let four = count_with b c s.heap in
+    let all = f.live c in
+    omega (arith, one, two, three, four, all) in
     record { block = block; within = within; heap = heap; same = same; laid_out = laid_out_same _ _ same parts }
 
 -- what the world is where a block is made so

@@ -9,7 +9,7 @@ use Rattle.rv_image.specs.declared.image.Image.{Image}
 use Rattle.rv_image.specs.Rules.{IsImage}
 use Rattle.size_table.specs.Made.{blocks_from}
 use Rattle.rv_machine.specs.Changes.{NoneChanges}
-use Rattle.rv_machine.specs.Environment.{World, with_machine, telling, calls, gets, gets_from, kind_of, reports, reported_if, enters, enter_events, leaves, leave_events, made_event, ended_event, new_in, mallocs, malloc_events, Freeing, Nothing, NoBlock, Ends, frees, free_events}
+use Rattle.rv_machine.specs.Environment.{World, with_machine, telling, calls, gets, gets_from, kind_of, reports, reported_if, enters, enter_events, leaves, leave_events, made_event, ended_event, new_in, mallocs, malloc_events, Freeing, frees, free_events}
 use Rattle.bb_watch.specs.Told.{Tell, Happens, events_of}
 use Rattle.rv_machine.specs.Formed.{IsFormed}
 use Rattle.rv_machine.specs.Frames.{Entering, Leaving, last_entered, stack_under}

@@ -1,13 +1,13 @@
 -- Lists that have the same blocks.
-use Rattle.std.proofs.Common.{◌≡◌, ◌≢◌, ◌⊎◌, ℕ, ◌+◌, ◌^◌, ◌<◌, ◌≤◌, Bool, true, false, cond, eqb, ltb, ◌&&◌, Option, Some, None, List, [], ◌∷◌, ◌++◌, refl, sym, ap, subst, ◌∙◌, inl, inr, arith}
-use Rattle.std.specs.Prelude.{All, map, reverse}
+use Rattle.std.proofs.Common.{◌≡◌, ◌≢◌, ◌⊎◌, ℕ, ◌+◌, ◌≤◌, Bool, true, false, cond, eqb, ltb, ◌&&◌, Some, List, [], ◌∷◌, ◌++◌, refl, sym, ap, subst, ◌∙◌, inl, inr, arith}
+use Rattle.std.specs.Prelude.{All}
 use Rattle.std.proofs.lemmas.Bool.{eq-eqb, ne_eqb, eqb-true}
 use Rattle.std.proofs.lemmas.List.Elements.{All-nil, All-cons, All-head, All-tail}
 use Rattle.std.proofs.lemmas.Nat.{pow_pos}
 use Rattle.std.proofs.lemmas.Option.{same_Some, none-some}
 use Rattle.buddy_heap.specs.Places.{with_block, block_from}
 use Rattle.rv_machine.specs.Formed.{one_of, count_in, SameBlocks}
-use Rattle.size_table.specs.Blocks.{Block, block_at, end_of, MissEachOther, MissesAll, AreDisjoint, without}
+use Rattle.size_table.specs.Blocks.{Block, block_at, MissEachOther, MissesAll, AreDisjoint, without}
 
 -- ---- One block
 

@@ -1,5 +1,5 @@
 -- The size table follows the blocks.
-use Rattle.std.proofs.Common.{◌≡◌, ℕ, zero, suc, ◌+◌, ◌-◌, ◌%◌, List, [], ◌∷◌, ◌++◌, length, take, Option, Some, None, refl, sym, ap, subst, ◌∙◌, arith, append-nil}
+use Rattle.std.proofs.Common.{◌≡◌, ℕ, zero, suc, ◌+◌, ◌%◌, List, [], ◌∷◌, ◌++◌, Option, Some, None, refl, sym, ap, subst, ◌∙◌, arith, append-nil}
 use Rattle.std.specs.Prelude.{map, reverse, slice_get}
 use Rattle.bb_watch.specs.declared.event.Event.{Event}
 use Rattle.rv_image.specs.declared.image.Image.{Image}
@@ -7,14 +7,14 @@ use Rattle.rv_image.specs.Rules.{IsImage, total_size}
 use Rattle.rv_machine.specs.declared.frames.Entry.TheVariants.{NoFrame, TooDeep, NoRoom}
 use Rattle.size_table.specs.Made.{blocks_from, all_made, all_ended, made, ended}
 use Rattle.rv_machine.specs.Changes.{AreOffTable}
-use Rattle.rv_machine.specs.Environment.{World, with_machine, telling, calls, gets, puts, kind_of, reports, enters, enter_events, leaves, leave_events, made_event, ended_event, new_in, mallocs, malloc_events, Freeing, Nothing, NoBlock, Ends, frees, free_events}
+use Rattle.rv_machine.specs.Environment.{World, with_machine, telling, calls, gets, puts, kind_of, reports, enters, enter_events, leaves, leave_events, made_event, ended_event, new_in, mallocs, malloc_events, Freeing, Nothing, NoBlock, frees, free_events}
 use Rattle.bb_watch.specs.Told.{Tell, Output, Happens, events_of}
 use Rattle.rv_machine.specs.Formed.{IsFormed, live_in}
 use Rattle.rv_machine.specs.Frames.{Entering, Leaving, last_entered, not_left, refused, stack_under}
 use Rattle.rv_machine.specs.Instruction.{Goes, core_step, core_events}
 use Rattle.rv_machine.specs.Laws.{tells_of}
 use Rattle.bb_watch.specs.Live.{live_of}
-use Rattle.rv_machine.specs.Live.{global_blocks, call_blocks}
+use Rattle.rv_machine.specs.Live.{global_blocks}
 use Rattle.rv_machine.specs.Machine.{step, steps}
 use Rattle.rv_machine.specs.State.{Core, register_of, with_core}
 use Rattle.rv_machine.proofs.BlockLists.{from_between}

@@ -8,7 +8,7 @@ use Rattle.rv_image.specs.declared.image.Image.{Image}
 use Rattle.rv_image.specs.Rules.{IsImage, total_size}
 use Rattle.size_table.specs.Made.{blocks_from}
 use Rattle.rv_machine.specs.Changes.{IsOfBlock, IsOfEntry, NoneChanges}
-use Rattle.rv_machine.specs.Environment.{World, with_machine, telling, calls, gets, kind_of, reports, enters, enter_events, leaves, leave_events, made_event, ended_event, new_in, mallocs, malloc_events, Freeing, Nothing, NoBlock, Ends, frees, free_events}
+use Rattle.rv_machine.specs.Environment.{World, with_machine, telling, calls, gets, kind_of, reports, enters, enter_events, leaves, leave_events, made_event, ended_event, new_in, mallocs, malloc_events, Freeing, frees, free_events}
 use Rattle.rv_machine.specs.Formed.{IsFormed}
 use Rattle.rv_machine.specs.Frames.{Entering, Leaving, last_entered, stack_under}
 use Rattle.rv_machine.specs.Instruction.{Goes, core_step, core_events}

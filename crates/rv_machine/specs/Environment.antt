@@ -6,9 +6,11 @@ use Rattle.bb_words.specs.declared.kinds.TrapKind.TheVariants.{Call}
 use Rattle.bb_watch.specs.declared.event.Event.{Event}
 use Rattle.bb_watch.specs.declared.event.Event.TheVariants.{Made, Ended}
 use Rattle.bb_watch.specs.Told.{Tell, Output, Happens}
+use Rattle.size_table.specs.declared.memory_map.TheConstants.{MOST_BYTES}
 use Rattle.size_table.specs.Blocks.{Block, block_at, without}
-use Rattle.buddy_heap.specs.Places.{exponent_of, place_of, with_block, block_from}
+use Rattle.buddy_heap.specs.Places.{place_of, with_block, block_from}
 use Rattle.size_table.specs.Made.{made, ended}
+use Rattle.size_table.specs.Pads.{exponent_of}
 use Rattle.rv_machine.specs.declared.frames.Entry.{Entry}
 use Rattle.rv_machine.specs.declared.frames.Entry.TheVariants.{NoFrame, TooDeep, NoRoom, Enters}
 use Rattle.rv_machine.specs.declared.stop.Halt.TheVariants.{Exited, Reported, Trapped}
@@ -113,7 +115,7 @@ block_of exponent None = None
 block_of exponent (Some base) = Some (block_at base exponent)
 
 unfoldable pub new_block : ℕ → List Block → Option Block
-new_block size heap = if nat_lt 16777216 size then None else block_of (exponent_of size) (place_of heap (exponent_of size))
+new_block size heap = if nat_lt MOST_BYTES size then None else block_of (exponent_of 4 size) (place_of heap (exponent_of 4 size))
 
 abbrev pub new_in : State → Option Block
 new_in s = new_block (register_of s.core 10) s.heap

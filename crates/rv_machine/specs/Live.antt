@@ -5,7 +5,7 @@ use Rattle.rv_machine.specs.declared.frames.Entered.{Entered}
 use Rattle.size_table.specs.Made.{blocks_from}
 use Rattle.rv_machine.specs.Frames.{stack_under}
 use Rattle.size_table.specs.declared.memory_map.TheConstants.{GLOBALS_START}
-use Rattle.size_table.specs.Blocks.{Block, block_at, holds, without}
+use Rattle.size_table.specs.Blocks.{Block}
 
 -- the blocks of the global objects, which are live from the start on
 abbrev pub global_blocks : Image → List Block

@@ -2,13 +2,12 @@
 use Rattle.std.specs.Prelude.{ℕ, ◌≤◌, List, [], Option, Some, IsSome}
 use Rattle.bb_words.specs.declared.kinds.TrapKind.TheVariants.{Null, Marked, Misaligned}
 use Rattle.bb_watch.specs.Told.{events_of}
-use Rattle.bb_watch.specs.Live.{live_of, live_after, ever_after, holder, owner}
+use Rattle.bb_watch.specs.Live.{live_of}
 use Rattle.bb_watch.specs.Safety.{Each, IsMoveSafe, IsAccessSafe, IsControlSafe, open_after}
 use Rattle.rv_image.specs.declared.image.Image.{Image}
 use Rattle.rv_machine.specs.declared.stop.Halt.{Halt}
 use Rattle.rv_machine.specs.declared.stop.Halt.TheVariants.{Trapped}
 use Rattle.rv_machine.specs.Environment.{World}
-use Rattle.marked_ptr.specs.Marked.{unmarked}
 use Rattle.rv_machine.specs.Live.{global_blocks}
 use Rattle.rv_machine.specs.Machine.{machine_after}
 use Rattle.size_table.specs.Blocks.{Block}

@@ -11,7 +11,7 @@ pub fn example_is_safe()
     size_table::laws::marking_adds();
     size_table::laws::marking_removes();
     buddy_heap::laws::place_is_least();
-    buddy_heap::laws::exponent_fits();
+    size_table::laws::exponent_is_least();
 }
 
 /// That image exits with status 42 after three instructions.
@@ -31,7 +31,7 @@ pub fn block_is_used_safely()
     size_table::laws::marking_adds();
     size_table::laws::marking_removes();
     buddy_heap::laws::place_is_least();
-    buddy_heap::laws::exponent_fits();
+    size_table::laws::exponent_is_least();
 }
 
 /// That run tells all these things.
@@ -51,7 +51,7 @@ pub fn frame_is_used_safely()
     size_table::laws::marking_adds();
     size_table::laws::marking_removes();
     buddy_heap::laws::place_is_least();
-    buddy_heap::laws::exponent_fits();
+    size_table::laws::exponent_is_least();
     crate::laws::text_stands();
 }
 
@@ -73,7 +73,7 @@ pub fn clauses_refuse()
     size_table::laws::marking_adds();
     size_table::laws::marking_removes();
     buddy_heap::laws::place_is_least();
-    buddy_heap::laws::exponent_fits();
+    size_table::laws::exponent_is_least();
     rv_code::laws::reads_only();
 }
 

@@ -64,7 +64,7 @@ pub fn form_stays()
 {
     rv_code::laws::reads_only();
     buddy_heap::laws::place_is_least();
-    buddy_heap::laws::exponent_fits();
+    size_table::laws::exponent_is_least();
 }
 
 /// So this holds after each instruction of every run of an image.
@@ -73,7 +73,7 @@ pub fn runs_are_formed()
 {
     rv_code::laws::reads_only();
     buddy_heap::laws::place_is_least();
-    buddy_heap::laws::exponent_fits();
+    size_table::laws::exponent_is_least();
 }
 
 /// The live blocks are aligned to their size and lie in their regions, and no two of them meet.
@@ -87,7 +87,7 @@ pub fn only_told_change()
     ensures { OnlyToldChange }
 {
     buddy_heap::laws::place_is_least();
-    buddy_heap::laws::exponent_fits();
+    size_table::laws::exponent_is_least();
 }
 
 /// The bytes of a block that was made are zero.
@@ -95,7 +95,7 @@ pub fn made_is_zero()
     ensures { MadeIsZero }
 {
     buddy_heap::laws::place_is_least();
-    buddy_heap::laws::exponent_fits();
+    size_table::laws::exponent_is_least();
 }
 
 /// The text's region stays as it was at the start.
@@ -104,7 +104,7 @@ pub fn text_stays()
 {
     rv_code::laws::reads_only();
     buddy_heap::laws::place_is_least();
-    buddy_heap::laws::exponent_fits();
+    size_table::laws::exponent_is_least();
 }
 
 /// The words of an image's text stand in memory from 0x1000 on, in every run.
@@ -113,7 +113,7 @@ pub fn text_stands()
 {
     rv_code::laws::reads_only();
     buddy_heap::laws::place_is_least();
-    buddy_heap::laws::exponent_fits();
+    size_table::laws::exponent_is_least();
 }
 
 /// The size table is that of the live blocks, before and after an instruction that does not itself write to it.
@@ -125,7 +125,7 @@ pub fn table_follows()
     size_table::laws::marking_adds();
     size_table::laws::marking_removes();
     buddy_heap::laws::place_is_least();
-    buddy_heap::laws::exponent_fits();
+    size_table::laws::exponent_is_least();
 }
 
 /// So it is in every run of a program that never writes to it.
@@ -137,7 +137,7 @@ pub fn runs_have_table()
     size_table::laws::marking_adds();
     size_table::laws::marking_removes();
     buddy_heap::laws::place_is_least();
-    buddy_heap::laws::exponent_fits();
+    size_table::laws::exponent_is_least();
 }
 
 /// A run whose accesses are safe, and that keeps control, has the size table of the live blocks.
@@ -149,7 +149,7 @@ pub fn table_is_kept()
     size_table::laws::marking_adds();
     size_table::laws::marking_removes();
     buddy_heap::laws::place_is_least();
-    buddy_heap::laws::exponent_fits();
+    size_table::laws::exponent_is_least();
 }
 
 /// A run that is safe at its end is safe.
@@ -161,5 +161,5 @@ pub fn safe_at_end()
     size_table::laws::marking_adds();
     size_table::laws::marking_removes();
     buddy_heap::laws::place_is_least();
-    buddy_heap::laws::exponent_fits();
+    size_table::laws::exponent_is_least();
 }

@@ -11,9 +11,11 @@ use crate::stop::{Effect, Fault, Halt, Stop};
 use bb_outside::{Sink, SinkFailed, Source, SourceFailed};
 use bb_words::kinds::{ReportKind, TrapKind};
 use bb_words::word::Word;
-use buddy_heap::heap::{exponent, Heap};
+use buddy_heap::heap::Heap;
 use core::mem::replace_with;
 use rv_image::image::Image;
+use size_table::memory_map::MOST_BYTES;
+use size_table::padding::exponent;
 use std::alloc::{AllocError, Global};
 use std::marker::Model;
 
@@ -256,7 +258,7 @@ impl Machine {
         ensures { self.new ≡ mallocs self.old }
     {
         let size = self.core.register(10);
-        if size > 0x100_0000 {
+        if size > MOST_BYTES {
             self.core.give(10, 0);
             return;
         }

@@ -1,4 +1,4 @@
-use Rattle.std.proofs.Common.{◌≡◌, ◌+◌, ◌^◌, length}
+use Rattle.std.proofs.Common.{◌≡◌, length}
 use Rattle.size_table.specs.Blocks.{block_at}
 use Rattle.buddy_heap.specs.Places.{is_clear, blocks_of, AreBlocks}
 use Rattle.buddy_heap.proofs.heap.is_clear.Given as goal

@@ -1,4 +1,4 @@
-use Rattle.std.proofs.Common.{sym, arith}
+use Rattle.std.proofs.Common.{sym}
 use Rattle.buddy_heap.specs.Places.{blocks_of}
 use Rattle.buddy_heap.proofs.Lists.{left_first, left_room, left_found, left_next, left_none}
 use Rattle.buddy_heap.proofs.heap.place_in.Goals as goal

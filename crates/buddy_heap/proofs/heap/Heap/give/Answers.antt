@@ -1,8 +1,7 @@
-use Rattle.std.proofs.Common.{◌≡◌, ℕ, List, length, get_or, Some, None, refl, sym, ap, subst, ◌∙◌, arith}
-use Rattle.std.specs.List.{remove}
+use Rattle.std.proofs.Common.{◌≡◌, ℕ, length, get_or, Some, None, refl, sym, ap, subst, ◌∙◌, arith}
 use Rattle.size_table.specs.Blocks.{without}
 use Rattle.buddy_heap.specs.Places.{blocks_of, block_from, index_of, AreBlocks, LieInOrder}
-use Rattle.size_table.specs.Blocks.{Block, IsBlock, block_at}
+use Rattle.size_table.specs.Blocks.{IsBlock, block_at}
 use Rattle.buddy_heap.proofs.Lists.{found, not_found, removed_order, removed_blocks}
 use Rattle.buddy_heap.proofs.heap.Heap.give.Goals as goal
 
@@ -18,8 +17,7 @@ pub invariant_of-self : goal.invariant_of-self
 invariant_of-self c =
     let ps = c.self.inside.blocks.items in
     let is : index_of c.args.at ps ≡ Some c.in-Some.i = ap (index_of c.args.at) (sym c.deref.ensures.value) ∙ sym c.index_of.ensures ∙ c.in-Some.is in
-    let within = (found c.args.at c.in-Some.i ps c.self.invariant.0 is).within in
-    (
+    let within = (found c.args.at c.in-Some.i ps c.self.invariant.0 is).within in (
       subst AreBlocks (sym c.remove-block.ensures.items) (removed_blocks c.in-Some.i ps within c.self.invariant.0),
       subst (LieInOrder 16777216) (sym c.remove-block.ensures.items) (removed_order 16777216 c.in-Some.i ps within c.self.invariant.1),
       (let same = c.remove-block.ensures.capacity in let room = c.self.invariant.2 in omega (arith, same, room)),

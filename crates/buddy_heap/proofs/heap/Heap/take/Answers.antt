@@ -1,8 +1,8 @@
-use Rattle.std.proofs.Common.{◌≡◌, ℕ, List, ◌∷◌, length, Some, sym, ap, subst, ◌∙◌, arith}
+use Rattle.std.proofs.Common.{◌≡◌, ℕ, List, length, Some, sym, ap, subst, ◌∙◌, arith}
 use Rattle.std.specs.List.{insert}
 use Rattle.buddy_heap.specs.Places.{place_of, blocks_of, with_block, count_to, AreBlocks, LieInOrder}
-use Rattle.size_table.specs.Blocks.{Block, block_at}
-use Rattle.buddy_heap.proofs.Lists.{count_within, inserted, IsTaken, is_taken}
+use Rattle.size_table.specs.Blocks.{block_at}
+use Rattle.buddy_heap.proofs.Lists.{count_within, inserted, is_taken}
 use Rattle.buddy_heap.proofs.heap.Heap.take.Goals as goal
 
 pub put-requires-clause-within : goal.put-requires-clause-within
