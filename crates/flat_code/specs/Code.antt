@@ -1,5 +1,5 @@
 -- Flat code, as contracts see it. Each type is that of the same name in the program, without memory.
-use Rattle.std.specs.Prelude.{ℕ, zero, suc, List}
+use Rattle.std.specs.Prelude.{ℕ, List, [], ◌∷◌}
 use Rattle.bb_words.specs.declared.kinds.ReportKind.{ReportKind}
 use Rattle.bb_words.specs.declared.steps.ArithOp.{ArithOp}
 use Rattle.bb_words.specs.declared.steps.Width.{Width}
@@ -50,6 +50,7 @@ abbrev pub ◌+++◌ : FSteps → FSteps → FSteps
 FSteps.none +++ b = b
 (FSteps.more s a) +++ b = FSteps.more s (a +++ b)
 
--- one step
-abbrev pub only : FStep → FSteps
-only s = FSteps.more s FSteps.none
+-- the steps of a list
+abbrev pub steps : List FStep → FSteps
+steps [] = FSteps.none
+steps (x ∷ xs) = FSteps.more x (steps xs)

@@ -4,11 +4,7 @@ use Rattle.flat_code.specs.declared.code.FlatStep.{FlatStep, fold-FlatStep}
 use Rattle.flat_code.specs.declared.code.FlatStep.TheOpen.{FlatStep-F}
 use Rattle.flat_code.specs.declared.code.FlatFunction.{FlatFunction}
 use Rattle.flat_code.specs.declared.code.Flat.{Flat}
-use Rattle.flat_code.specs.Code.{FStep, FSteps, FFunction, FCode}
-
-abbrev pub steps : List FStep → FSteps
-steps [] = FSteps.none
-steps (x ∷ xs) = FSteps.more x (steps xs)
+use Rattle.flat_code.specs.Code.{FStep, FSteps, FFunction, FCode, steps}
 
 abbrev pub step_level : FlatStep-F FStep → FStep
 step_level (FlatStep-F.Number to value) = FStep.Number to value.0

@@ -5,3 +5,4 @@ pub mod World
 pub mod Accounts
 pub mod Time
 pub mod Run
+pub mod Sequences
