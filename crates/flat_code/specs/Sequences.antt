@@ -1,0 +1,139 @@
+-- The three sequences of steps that check pointers: a move, a load of a pointer, and the span of a range. Code that keeps
+-- the discipline looks into the size table in these alone. Each has, beside the values that it is about, temporaries of
+-- its own, which nothing reads afterwards.
+use Rattle.std.specs.Prelude.{◌≡◌, ◌≢◌, ℕ, ◌-◌, ◌^◌, ◌≤◌, List, [], ◌∷◌}
+use Rattle.bb_words.specs.Answers.{Answer}
+use Rattle.bb_words.specs.declared.kinds.ReportKind.{ReportKind}
+use Rattle.bb_words.specs.declared.kinds.ReportKind.TheVariants.{Bounds, Pointer}
+use Rattle.bb_words.specs.declared.steps.ArithOp.TheVariants as op
+use Rattle.bb_words.specs.declared.steps.Width.TheVariants as width
+use Rattle.marked_ptr.specs.Marked.{half_slot}
+use Rattle.marked_ptr.specs.declared.answer.MoveAnswer.{MoveAnswer}
+use Rattle.marked_ptr.specs.declared.answer.MoveAnswer.TheVariants as answer
+use Rattle.flat_code.specs.Code.{FSteps, none, ◌+++◌, steps}
+use Rattle.flat_code.specs.Code.FStep.{Number, Arith, If, Slot, Look, Load, Checked, Report}
+use Rattle.flat_code.specs.Told.{Tell}
+use Rattle.flat_code.specs.World.{Words, FPoint, point, spend, tell, Ending, Run, Way}
+
+-- a report, with the line in a value
+abbrev pub report : ReportKind → (line : ℕ) → FSteps
+report kind line = steps (Report kind line ∷ [])
+
+-- ---- The move sequence
+
+-- q becomes the word p without bit 31, plus d
+abbrev pub address_steps : (p d q : ℕ) → FSteps
+address_steps p d q = steps (Number q 0x7fff_ffff ∷ Arith q op.And p q ∷ Arith q op.Add q d ∷ [])
+
+-- q gets bit 31
+abbrev pub mark_steps : (q s : ℕ) → FSteps
+mark_steps q s = steps (Number s 0x8000_0000 ∷ Arith q op.Or q s ∷ [])
+
+-- the offset s is at least the block's size e: with half a slot more it is below the size and a slot, or it is reported
+abbrev pub outside_steps : (g p d q line s e : ℕ) → FSteps
+outside_steps g p d q line s e =
+    steps (Number q (half_slot g) ∷ Arith s op.Add s q ∷ Number q (2 ^ g) ∷ Arith e op.Add e q ∷ Arith q op.Ltu s e
+    ∷ If q (address_steps p d q +++ mark_steps q s) (report Bounds line) ∷ [])
+
+-- The word p is moved by d to q, over the temporaries s and e. In s stand the slot that owns p, the base of its block, and
+-- the offset of the sum from it; in e the block's exponent, and its size.
+abbrev pub move_sequence : (g p d q line s e : ℕ) → FSteps
+move_sequence g p d q line s e =
+    steps (Slot s p ∷ Look e s ∷ If e none (report Bounds line)
+    ∷ Number q g ∷ Arith s op.Shl s q ∷ Arith s op.Shr s e ∷ Arith s op.Shl s e
+    ∷ Number q 1 ∷ Arith e op.Shl q e
+    ∷ Number q 0x7fff_ffff ∷ Arith q op.And p q ∷ Arith q op.Add q d
+    ∷ Arith s op.Sub q s ∷ Arith q op.Ltu s e ∷ If q (address_steps p d q) (outside_steps g p d q line s e)
+    ∷ Checked p q ∷ [])
+
+-- ---- The load sequence
+
+-- the slot s that owns the word w is none of memory's, or no block holds it: it is reported
+abbrev pub owned_steps : (g w line s e : ℕ) → FSteps
+owned_steps g w line s e =
+    steps (Slot s w ∷ Number e (2 ^ (25 - g)) ∷ Arith e op.Ltu s e
+    ∷ If e (steps (Look e s ∷ If e none (report Pointer line) ∷ [])) (report Pointer line) ∷ [])
+
+-- a pointer is loaded from `at` into w, over the temporaries s and e; it is null or belongs to a block
+abbrev pub load_sequence : (g w at line s e : ℕ) → FSteps
+load_sequence g w at line s e = steps (Load w at width.Pointer ∷ If w (owned_steps g w line s e) none ∷ [])
+
+-- ---- The span sequence
+
+-- the first and the last of n bytes at p are touched
+abbrev pub touch_steps : (g p n q line d s e : ℕ) → FSteps
+touch_steps g p n q line d s e =
+    steps (Load d p width.Byte ∷ Number d 0xffff_ffff ∷ Arith d op.Add n d ∷ [])
+    +++ (move_sequence g p d q line s e +++ steps (Load d q width.Byte ∷ []))
+
+-- The n bytes at p lie in one block, and q becomes the address of the last, over the temporaries d, s and e. Nothing is
+-- looked at where n is 0.
+abbrev pub span_sequence : (g p n q line d s e : ℕ) → FSteps
+span_sequence g p n q line d s e =
+    steps (Number d 0x0100_0001 ∷ Arith d op.Ltu n d ∷ If d none (report Bounds line) ∷ If n (touch_steps g p n q line d s e) none ∷ [])
+
+-- ---- Values that are apart
+
+-- what a move sets differs from what it reads, and each from the others
+pub record MoveApart (p d q line s e : ℕ) : Type 0 where
+  pub qp : q ≢ p
+  pub qd : q ≢ d
+  pub ql : q ≢ line
+  pub sp : s ≢ p
+  pub sd : s ≢ d
+  pub sl : s ≢ line
+  pub sq : s ≢ q
+  pub ep : e ≢ p
+  pub ed : e ≢ d
+  pub el : e ≢ line
+  pub eq : e ≢ q
+  pub es : e ≢ s
+
+pub record LoadApart (w line s e : ℕ) : Type 0 where
+  pub wl : w ≢ line
+  pub sw : s ≢ w
+  pub sl : s ≢ line
+  pub ew : e ≢ w
+  pub el : e ≢ line
+  pub es : e ≢ s
+
+pub record SpanApart (p n q line d s e : ℕ) : Type 0 where
+  pub move : MoveApart p d q line s e
+  pub np : n ≢ d
+  pub nq : n ≢ q
+  pub ns : n ≢ s
+  pub ne : n ≢ e
+  pub dp : d ≢ p
+  pub dl : d ≢ line
+
+-- ---- What the sequences do
+
+-- how many instructions a move takes at most: it has 27 steps on its longest way
+abbrev pub move_time : ℕ
+move_time = 128
+
+-- no value but these three has changed
+abbrev pub KeptBut : (q s e : ℕ) → (old new : Words) → Type 0
+KeptBut q s e old new = (v : ℕ) → v ≢ q → v ≢ s → v ≢ e → new v ≡ old v
+
+-- The run went on within so much time: q has the word, the move was told, and nothing else has changed but s and e.
+pub record WentOn (limit p q s e word : ℕ) (u : FPoint) (r : Run Way) : Type 0 where
+  pub words : Words
+  pub took : ℕ
+  pub within : took ≤ limit
+  pub is : r ≡ Answer.Goes Way.On (point words (tell (Tell.Move (u.words p) word) (spend took u.world)))
+  pub value : words q ≡ word
+  pub kept : KeptBut q s e u.words words
+
+-- The run ended by a report within so much time, and nothing was told.
+pub record WasReported (limit line : ℕ) (kind : ReportKind) (u : FPoint) (r : Run Way) : Type 0 where
+  pub words : Words
+  pub took : ℕ
+  pub within : took ≤ limit
+  pub is : r ≡ Answer.Ends (Ending.Reported kind (u.words line)) (point words (spend took u.world))
+
+-- the run does what the answer of a move says
+abbrev pub DoesMove : (limit : ℕ) → MoveAnswer → (p q line s e : ℕ) → FPoint → Run Way → Type 0
+DoesMove limit (answer.Inside word) p q line s e u r = WentOn limit p q s e word.0 u r
+DoesMove limit (answer.Marked word) p q line s e u r = WentOn limit p q s e word.0 u r
+DoesMove limit answer.Report p q line s e u r = WasReported limit line Bounds u r
