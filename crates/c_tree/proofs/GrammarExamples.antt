@@ -66,7 +66,7 @@ expressions_derive = record {
   sizeof_expression = expression within_limits (IsCast.unary (IsUnary.sizeof_expression refl
       (IsUnary.postfix (IsPostfix.primary (IsPrimary.bracketed refl (expression within_limits leaf) (at 3))))));
   postfix = expression within_limits (postfix within_limits (IsPostfix.step_after
-      (IsPostfix.index (IsPostfix.call (IsPostfix.primary IsPrimary.name) (lit≤ tt) (at 1) refl (AreArguments.some_arguments (AreListed.last (assignment within_limits leaf))) (at 3))
+      (IsPostfix.index (IsPostfix.call (IsPostfix.primary IsPrimary.name) (at 1) (lit≤ tt) refl (AreArguments.some_arguments (AreListed.last (assignment within_limits leaf))) (at 3))
       (lit≤ tt) refl (expression within_limits (primary within_limits IsPrimary.number)) (at 6)) (lit≤ tt) m.PlusPlus refl));
   prefix = expression within_limits (IsCast.unary (IsUnary.prefix refl refl
       (postfix within_limits (IsPostfix.step_after (IsPostfix.primary IsPrimary.name) (lit≤ tt) m.PlusPlus refl))));
