@@ -1,7 +1,7 @@
 -- A file is refused at one token.
 use Rattle.std.proofs.Common.{◌≡◌, ℕ, zero, suc, ◌≤◌, ◌<◌, List, [], ◌∷◌, ◌++◌, refl, sym, ap, ◌∙◌, subst, arith, ◌⊎◌, inl, inr}
 use Rattle.std.proofs.lemmas.Bool.{cases_order}
-use Rattle.std.specs.Prelude.{length, take, drop}
+use Rattle.std.specs.Prelude.{length, take}
 use Rattle.std.proofs.lemmas.List.{append_assoc, append-nil}
 use Rattle.c_words.specs.Tokens.{Placed}
 use Rattle.c_tree.specs.Syntax.{UnitTree}
@@ -84,12 +84,15 @@ one_kind ts _ _ _ _ is h (IsRefused.too_deep n _ _ _) (IsRefused.ended _ _) = ab
 
 pub one_refusal : HasOneRefusal
 one_refusal ts r s n m a b = elim (said ts r n a) [
-    inl x ↦ elim (said ts s m b) [
-        inl y ↦ let is = one_place ts n m (cases_order n m) x y in (one_kind ts r s n m is x.within a b, is)
-      | inr y ↦ absurd (below_end ts n x y.all) ]
+  | inl x ↦ elim (said ts s m b) [
+    | inl y ↦ let is = one_place ts n m (cases_order n m) x y in (one_kind ts r s n m is x.within a b, is)
+    | inr y ↦ absurd (below_end ts n x y.all)
+  ]
   | inr x ↦ elim (said ts s m b) [
-        inl y ↦ absurd (below_end ts m y x.all)
-      | inr y ↦ (x.why ∙ sym y.why, x.at_end ∙ sym y.at_end) ] ]
+    | inl y ↦ absurd (below_end ts m y x.all)
+    | inr y ↦ (x.why ∙ sym y.why, x.at_end ∙ sym y.at_end)
+  ]
+]
 
 -- what all tokens derive within the limits
 whole : (ts : List Placed) (unit : UnitTree) → Derives within_limits ts unit → Begin (limits_before (length ts)) ts
@@ -97,5 +100,6 @@ whole ts unit x = record { rest = []; unit = unit; derives = rw append-nil (with
 
 pub not_refused : IsNotRefused
 not_refused ts unit r n x a = elim (said ts r n a) [
-    inl s ↦ below_end ts n s (whole ts unit x)
-  | inr s ↦ s.none unit (within_is_without ts unit x) ]
+  | inl s ↦ below_end ts n s (whole ts unit x)
+  | inr s ↦ s.none unit (within_is_without ts unit x)
+]
