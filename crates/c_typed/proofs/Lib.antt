@@ -1,4 +1,5 @@
 pub mod TypesCases
 pub mod TypedLemmas
+pub mod SizeLemmas
 pub mod TypedPrograms
 pub mod TypedViewed

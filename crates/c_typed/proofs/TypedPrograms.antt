@@ -1,5 +1,5 @@
 -- The judgement of the small programs.
-use Rattle.std.proofs.Common.{◌≡◌, ℕ, true, false, List, [], ◌∷◌, refl, sym, arith}
+use Rattle.std.proofs.Common.{◌≡◌, ℕ, true, false, List, [], ◌∷◌, refl, sym, arith, lit<}
 use Rattle.std.specs.Prelude.{Some, slice_get}
 use Rattle.std.proofs.lemmas.List.Elements.{All-nil, All-cons, All-head, All-from_recursion}
 use Rattle.c_typed.specs.Types.{CType, is_struct}
@@ -9,7 +9,6 @@ use Rattle.c_typed.specs.TypedRules.{IsResult, IsSet}
 use Rattle.c_typed.specs.TypedBody.{Environment, IsLiteral, IsInitialized, IsStmt, AreStmts}
 use Rattle.c_typed.specs.Typed.{environment_of, IsStruct, IsFunction, IsLocalObject, IsGlobalObject, Typed}
 use Rattle.c_typed.specs.TypedLaws.{forty_two, main_function, main_of, return_number, number, token, mixed, assigns_to_number, returns_nothing, pointer_local, points, Mixed, NotTyped}
-use Rattle.c_typed.proofs.TypedLemmas.{none_lies}
 
 no_local : (p : CProgram) (f : CFunction) (k : ℕ) (l : CLocal) → slice_get [] k ≡ Some l → IsLocalObject p f k l
 no_local p f k l found = absurd cc
@@ -23,13 +22,13 @@ forty_two_body = record {
   params = All-nil _;
   locals = no_local _ _;
   block = tt;
-  body = (((tt, IsLiteral.int refl), (refl, refl)), tt);
+  body = (((tt, (IsLiteral.int refl, lit< tt)), (refl, refl)), tt);
 }
 
 pub forty_two_is_typed : Typed forty_two
 forty_two_is_typed = record {
   structs = All-nil (IsStruct []);
-  finite = λ k lies. none_lies lies;
+  ranked = record { rank = λ k. 0; rises = λ k j s m i found is_member within. absurd cc };
   globals = All-nil (IsGlobalObject forty_two);
   texts = All-nil _;
   functions = All-cons (IsFunction forty_two) _ [] forty_two_body (All-nil (IsFunction forty_two));

@@ -1,4 +1,5 @@
 //! Laws of the typed tree.
+ghost use Rattle.c_typed.specs.SizeLaws.{CompleteLiesAligned, MembersLieWithin, MembersLieApart, ArrayIsElements, NoneInItself};
 ghost use Rattle.c_typed.specs.TypedLaws.{TypesAreSmall, UndefinedIsEmpty, TempsAtLeastFour, FortyTwo, ManyLocals, Mixed, NotTyped};
 
 /// No type of a typed program has more than 1,048,576 bytes.
@@ -9,6 +10,31 @@ pub fn types_are_small()
 /// A tag that is never defined has size 0 and alignment 1.
 pub fn undefined_is_empty()
     ensures { UndefinedIsEmpty }
+{}
+
+/// An object of a complete type has at least 1 byte, an alignment of 1 or 4, and a multiple of it as its size.
+pub fn complete_lies_aligned()
+    ensures { CompleteLiesAligned }
+{}
+
+/// A member lies within its struct, at a multiple of its alignment.
+pub fn members_lie_within()
+    ensures { MembersLieWithin }
+{}
+
+/// Members of one struct share no byte.
+pub fn members_lie_apart()
+    ensures { MembersLieApart }
+{}
+
+/// An array's size is that of its elements together.
+pub fn array_is_elements()
+    ensures { ArrayIsElements }
+{}
+
+/// No struct lies in itself.
+pub fn none_in_itself()
+    ensures { NoneInItself }
 {}
 
 /// Each expression has 4 temporaries or more.
