@@ -3,3 +3,5 @@ pub mod TypedLemmas
 pub mod SizeLemmas
 pub mod TypedPrograms
 pub mod TypedViewed
+pub mod Refused
+pub mod Objects

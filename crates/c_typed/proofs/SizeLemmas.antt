@@ -1,11 +1,11 @@
 -- How objects lie: sizes, alignments and offsets.
-use Rattle.std.proofs.Common.{◌≡◌, ℕ, zero, suc, ◌+◌, ◌-◌, ◌*◌, ◌/◌, ◌<◌, ◌≤◌, ◌⊎◌, inl, inr, max, true, false, List, [], ◌∷◌, length, refl, sym, ap, subst, arith, ◌∙◌}
+use Rattle.std.proofs.Common.{◌≡◌, ℕ, zero, suc, ◌+◌, ◌-◌, ◌*◌, ◌/◌, ◌<◌, ◌≤◌, ◌⊎◌, inl, inr, max, true, List, [], ◌∷◌, refl, sym, ap, subst, arith, ◌∙◌}
 use Rattle.std.specs.Prelude.{All, Option, Some, None, slice_get}
 use Rattle.c_typed.specs.Types.{CType}
 use Rattle.c_typed.specs.TypedTree.{CMember, CStruct}
 use Rattle.c_typed.specs.Sizes.{size_of, align_of, struct_size, struct_align, has_members, IsType, IsComplete, rounded_up, AreInOrder, end_of, greatest_align}
 use Rattle.c_typed.specs.Typed.{IsIn, LiesIn, AreRanked, IsStruct}
-use Rattle.c_typed.specs.SizeLaws.{LiesAligned, CompleteLiesAligned, LiesWithin, MembersLieWithin, MembersLieApart, ArrayIsElements, NoneInItself}
+use Rattle.c_typed.specs.SizeLaws.{LiesAligned, CompleteLiesAligned, MembersLieWithin, MembersLieApart, ArrayIsElements, NoneInItself}
 use Rattle.c_typed.proofs.TypedLemmas.{All-slice_get}
 
 -- an alignment

@@ -1,5 +1,5 @@
 -- Facts on the typed tree.
-use Rattle.std.proofs.Common.{◌≡◌, ℕ, ◌≤◌, List, [], ◌∷◌, refl, arith, subst}
+use Rattle.std.proofs.Common.{◌≡◌, ℕ, ◌≤◌, List, refl, arith, subst}
 use Rattle.std.specs.Prelude.{All, Option, Some, None, slice_get}
 use Rattle.std.proofs.lemmas.Option.{slice_get_within, get_or_from_slice_get}
 use Rattle.c_words.specs.declared.place.At.{At}

@@ -11,3 +11,4 @@ pub mod TypedBody
 pub mod Typed
 pub mod SizeLaws
 pub mod TypedLaws
+pub mod TypedRefused

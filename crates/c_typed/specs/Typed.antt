@@ -1,5 +1,5 @@
 -- When a typed program keeps the rules of typing.
-use Rattle.std.specs.Prelude.{◌≡◌, ℕ, ◌+◌, ◌<◌, ◌≤◌, nat_le, Bool, true, false, ◌&&◌, ◌||◌, ◌==◌, IsTrue, All, Option, Some, None, List, [], ◌∷◌, length, map, take, slice_get, codes}
+use Rattle.std.specs.Prelude.{◌≡◌, ℕ, ◌+◌, ◌<◌, ◌≤◌, nat_le, Bool, true, false, ◌&&◌, ◌||◌, ◌==◌, IsTrue, All, Option, Some, None, List, length, map, take, slice_get, codes}
 use Rattle.c_words.specs.declared.place.At.{At}
 use Rattle.c_words.specs.declared.operators.UnaryOperator.TheVariants.{Address}
 use Rattle.c_typed.specs.declared.typed.GlobalObject.{GlobalObject}
@@ -7,7 +7,7 @@ use Rattle.c_typed.specs.declared.typed.GlobalObject.TheVariants.{Named, Text}
 use Rattle.c_typed.specs.declared.typed.InitialByte.{InitialByte}
 use Rattle.c_typed.specs.declared.typed.InitialByte.TheVariants.{Byte, PointerPart}
 use Rattle.c_typed.specs.Types.{CType, is_array, is_struct, IsScalar}
-use Rattle.c_typed.specs.TypedTree.{CExpr, CForm, CInitial, CInitializer, CDeclaration, CStmt, CMember, CStruct, CGlobal, CLocal, CFunction, CProgram, at_of}
+use Rattle.c_typed.specs.TypedTree.{CExpr, CForm, CInitial, CInitializer, CStmt, CMember, CStruct, CGlobal, CLocal, CFunction, CProgram, at_of}
 use Rattle.c_typed.specs.Walk.{every_expr, some_expr_in, over_stmt}
 use Rattle.c_typed.specs.Sizes.{largest, size_of, IsComplete, IsType, rounded_up, AreInOrder, end_of, greatest_align}
 use Rattle.c_typed.specs.TypedRules.{IsResult, prototype_of}

@@ -1,6 +1,6 @@
 -- The rules of typing, one definition each: what the operands of an operator and its type are (C11 6.5), what an
 -- initializer fits (6.7.9), and what a function may be (6.7.6.3, 6.9.1).
-use Rattle.std.specs.Prelude.{◌≡◌, ◌≢◌, ℕ, ◌≤◌, nat_lt, false, IsTrue, if◌then◌else◌, Option, Some, None, List, [], ◌∷◌, length, map, take, slice_get}
+use Rattle.std.specs.Prelude.{◌≡◌, ℕ, ◌≤◌, nat_lt, false, IsTrue, if◌then◌else◌, Option, Some, None, List, [], ◌∷◌, length, map, take, slice_get}
 use Rattle.c_words.specs.declared.operators.UnaryOperator.{UnaryOperator}
 use Rattle.c_words.specs.declared.operators.UnaryOperator.TheVariants as unary
 use Rattle.c_words.specs.declared.operators.BinaryOperator.{BinaryOperator}

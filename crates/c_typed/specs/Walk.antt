@@ -1,5 +1,5 @@
 -- One walk over expressions and one over statements. What is counted or asked of a typed tree is one line each over them.
-use Rattle.std.specs.Prelude.{ℕ, Bool, true, false, ◌&&◌, ◌||◌, Option, Some, None, List, [], ◌∷◌}
+use Rattle.std.specs.Prelude.{Bool, true, false, ◌&&◌, ◌||◌, Option, Some, None, List, [], ◌∷◌}
 use Rattle.c_typed.specs.TypedTree.{CExpr, CForm, CExprs, CInitial, CInitials, CInitializer, CDeclaration, CStart, CStmt, CStmts}
 
 -- What `step` makes of an expression and of what it made of the operands, in their order. A cast, a conversion and a

@@ -1,6 +1,7 @@
 //! Laws of the typed tree.
 ghost use Rattle.c_typed.specs.SizeLaws.{CompleteLiesAligned, MembersLieWithin, MembersLieApart, ArrayIsElements, NoneInItself};
-ghost use Rattle.c_typed.specs.TypedLaws.{TypesAreSmall, UndefinedIsEmpty, TempsAtLeastFour, FortyTwo, ManyLocals, Mixed, NotTyped};
+ghost use Rattle.c_typed.specs.TypedLaws.{TypesAreSmall, UndefinedIsEmpty, TempsAtLeastFour, FortyTwo, ManyLocals, Mixed, Temporaries, Nodes, Referred, Strings, AggregatesHaveObjects};
+ghost use Rattle.c_typed.specs.TypedRefused.{NotTyped, LinesCount};
 
 /// No type of a typed program has more than 1,048,576 bytes.
 pub fn types_are_small()
@@ -57,7 +58,37 @@ pub fn mixed()
     ensures { Mixed }
 {}
 
-/// Small programs that break a rule are not typed.
+/// Temporaries of small expressions.
+pub fn temporaries()
+    ensures { Temporaries }
+{}
+
+/// Nodes of small expressions and statements.
+pub fn nodes()
+    ensures { Nodes }
+{}
+
+/// Where `&` is found.
+pub fn referred()
+    ensures { Referred }
+{}
+
+/// Strings are arrays of their bytes and a zero.
+pub fn strings()
+    ensures { Strings }
+{}
+
+/// A struct or an array is found in an object, also where it is no place.
+pub fn aggregates_have_objects()
+    ensures { AggregatesHaveObjects }
+{}
+
+/// For each rule a small program that breaks it, and none of them is typed.
 pub fn not_typed()
     ensures { NotTyped }
+{}
+
+/// Lines are 1 to 1,048,575.
+pub fn lines_count()
+    ensures { LinesCount }
 {}
