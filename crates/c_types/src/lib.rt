@@ -1,0 +1,6 @@
+//! The typing of C: from a syntax tree to a typed program, or to the first rule that it breaks.
+#![tactic(auto)]
+
+pub mod conversions;
+pub mod error;
+pub mod sizes;
