@@ -1,0 +1,2 @@
+//! The heap.
+#![tactic(auto)]
