@@ -5,6 +5,7 @@ pub mod Accesses
 pub mod Comparisons
 pub mod Copies
 pub mod Accounts
+pub mod Start
 pub mod Numbers
 pub mod Sites
 pub mod States
