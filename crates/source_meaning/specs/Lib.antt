@@ -1,0 +1,14 @@
+pub mod Objects
+pub mod Worlds
+pub mod Moves
+pub mod Accesses
+pub mod Comparisons
+pub mod Copies
+pub mod Accounts
+pub mod Start
+pub mod Numbers
+pub mod Sites
+pub mod States
+pub mod Operators
+pub mod Meaning
+pub mod Runs
