@@ -6,7 +6,7 @@ use Rattle.std.proofs.lemmas.Nat.{pow_pos, pow-add}
 use Rattle.std.proofs.Math.Pow.{pow_mono}
 use Rattle.std.proofs.lemmas.Option.{same_Some, none-some}
 use Rattle.size_table.specs.Blocks.{Block, block_at, without, IsBlock, MissEachOther, MissesAll}
-use Rattle.buddy_heap.specs.Places.{IsRoom, IsPlaceOf, is_clear, first_of, place_of, with_block, block_from, blocks_of, AreBlocks, LieInOrder, count_to, next_index, index_of}
+use Rattle.buddy_heap.specs.Places.{IsRoom, IsPlaceOf, is_clear, first_of, place_of, with_block, block_from, blocks_of, AreBlocks, HaveExponents, LieInOrder, count_to, next_index, index_of}
 use Rattle.buddy_heap.proofs.Places.{whole, place_least}
 
 -- ---- Places that are left
@@ -192,3 +192,7 @@ is_taken ps e base low high a o is =
     let long = insert_long (count_to base ps) (base, e) ps within in
     let fits = order_room 16777216 (insert ps (count_to base ps) (base, e)) blocks order in
     record { few = omega (arith, long, fits); blocks = blocks; order = order; block = block }
+
+pub have_exponents : (ps : List (ℕ × ℕ)) → AreBlocks ps → HaveExponents ps
+have_exponents [] blocks = tt
+have_exponents (p ∷ ps) blocks = (blocks.0.most, have_exponents ps blocks.1)

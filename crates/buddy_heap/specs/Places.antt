@@ -63,6 +63,11 @@ abbrev pub AreBlocks : List (ℕ × ℕ) → Type 0
 AreBlocks [] = Unit {0}
 AreBlocks (p ∷ ps) = IsBlock 4 (block_at p.0 p.1) × AreBlocks ps
 
+-- none of them has more than 16 MiB
+abbrev pub HaveExponents : List (ℕ × ℕ) → Type 0
+HaveExponents [] = Unit {0}
+HaveExponents (p ∷ ps) = (p.1 ≤ 24) × HaveExponents ps
+
 -- by their bases, from an address on up to the end of the heap
 abbrev pub LieInOrder : ℕ → List (ℕ × ℕ) → Type 0
 LieInOrder low [] = low ≤ MEMORY_END

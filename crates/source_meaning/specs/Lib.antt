@@ -12,3 +12,4 @@ pub mod States
 pub mod Operators
 pub mod Meaning
 pub mod Runs
+pub mod Places

@@ -6,4 +6,5 @@
 //! time that compiled code may take. They know nothing of machines.
 #![tactic(auto)]
 
+pub mod places;
 pub mod values;
