@@ -1,0 +1,7 @@
+//! Laws of mid code.
+ghost use Rattle.mid_code.specs.Laws.{WatchedStraysOrRuns};
+
+/// Watching moves changes nothing but that a run may end where a move leaves its object.
+pub fn watched_strays_or_runs()
+    ensures { WatchedStraysOrRuns }
+{}
