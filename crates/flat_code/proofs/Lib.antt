@@ -1,1 +1,3 @@
 pub mod CodeViewed
+pub mod Words
+pub mod Move
