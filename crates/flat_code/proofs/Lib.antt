@@ -1,3 +1,4 @@
 pub mod CodeViewed
 pub mod Words
 pub mod Move
+pub mod Advance
