@@ -2,3 +2,4 @@ pub mod CodeViewed
 pub mod Words
 pub mod Move
 pub mod Advance
+pub mod Load

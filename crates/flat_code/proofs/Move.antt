@@ -25,7 +25,7 @@ use Rattle.flat_code.specs.Told.{Tell}
 use Rattle.flat_code.specs.World.{Words, with_word, FWorld, FPoint, point, spend, tell, choose, Ending, Run, Way, onward}
 use Rattle.flat_code.specs.Run.{Calls, act, act_all, slot_word, slot_or_ones}
 use Rattle.flat_code.specs.Sequences.{report, address_steps, mark_steps, outside_steps, move_sequence, MoveApart, KeptBut, WentOn, WasReported, DoesMove, move_time}
-use Rattle.flat_code.proofs.Words.{set_same, set_other}
+use Rattle.flat_code.proofs.Words.{set_same, set_other, spend_spend, arith_is, takes_first, takes_second}
 
 -- a word with bit 31
 marked_by_or : (n : ℕ) → n < 2 ^ 32 → bit_or n (2 ^ 31) ≡ marked n
@@ -56,19 +56,6 @@ slot_end g slot h l =
     let total : 2 ^ 25 ≡ 2 ^ g * 2 ^ (25 - g) = (let z : 25 ≡ g + (25 - g) = omega (arith, h) in ap (λ n. 2 ^ n) z ∙ pow-add 2 g (25 - g)) in
     let up : 2 ^ g * suc slot ≤ 2 ^ g * 2 ^ (25 - g) = mul-le-mul_left (2 ^ g) l in
     omega (arith, total, up, pow_pos g)
-
-spend_spend : (a b : ℕ) (w : FWorld) → spend b (spend a w) ≡ spend (a + b) w
-spend_spend a b w = ap (λ x. record w { time = x }) (let q : w.time + a + b ≡ w.time + (a + b) = omega arith in q)
-
-arith_is : (f : ArithOp) (v : Words) (a b x y z : ℕ) → v a ≡ x → v b ≡ y → arith_of f x y ≡ z → arith_of f (v a) (v b) ≡ z
-arith_is f v a b x y z ha hb hz = ap (λ n. arith_of f n (v b)) ha ∙ ap (λ n. arith_of f x n) hb ∙ hz
-
--- which branch is taken, by the value that is tested
-takes_first : {A : Type 0} (x n : ℕ) (u : FPoint) (a b : FPoint → A) → x ≡ suc n → choose (x == 0) b a u ≡ a u
-takes_first x n u a b h = ap (λ y. choose (y == 0) b a u) h ∙ ap (λ t. choose t b a u) (eqb-suc-zero n)
-
-takes_second : {A : Type 0} (x : ℕ) (u : FPoint) (a b : FPoint → A) → x ≡ 0 → choose (x == 0) b a u ≡ b u
-takes_second x u a b h = ap (λ y. choose (y == 0) b a u) h
 
 module _ (g : ℕ) (call : Calls) (m frame p d q line s e : ℕ) (apart : MoveApart p d q line s e) (u0 : FPoint) where
   abbrev P : ℕ

@@ -1,14 +1,15 @@
 -- What holds of flat code.
 use Rattle.std.specs.Prelude.{◌≡◌, ℕ, ◌-◌, ◌^◌, ◌<◌, ◌≤◌, List, ◌++◌, Some}
 use Rattle.bb_words.specs.Answers.{Answer}
+use Rattle.bb_words.specs.declared.steps.Width.TheVariants.{Pointer}
 use Rattle.marked_ptr.specs.Marked.{owner_slot, moved}
 use Rattle.size_table.specs.Blocks.{Block}
 use Rattle.size_table.specs.Table.{byte_of}
 use Rattle.flat_code.specs.Code.{FSteps, FFunction, FCode}
 use Rattle.flat_code.specs.Told.{Begins, AllBy}
-use Rattle.flat_code.specs.World.{FWorld, FPoint, Run}
+use Rattle.flat_code.specs.World.{read, FWorld, FPoint, Run}
 use Rattle.flat_code.specs.Run.{Calls, act_all, calls, flat_run}
-use Rattle.flat_code.specs.Sequences.{move_sequence, MoveApart, DoesMove, move_time}
+use Rattle.flat_code.specs.Sequences.{move_sequence, MoveApart, DoesMove, move_time, load_sequence, LoadApart, IsAddress, may_be_loaded, DoesLoad}
 
 -- ---- What a run leaves behind
 
@@ -53,3 +54,9 @@ MoveSequenceMoves =
     (g : ℕ) → 1 ≤ g → g ≤ 24 → (call : Calls) (m frame p d q line s e : ℕ) → MoveApart p d q line s e → (u : FPoint) (slot : ℕ)
     → owner_slot g (u.words p) ≡ Some slot → slot < 2 ^ (25 - g) → byte_of g u.world.live slot ≤ 24
     → DoesMove move_time (moved g (u.words p) (u.words d) (byte_of g u.world.live slot)) p q line s e u (act_all g call m frame (move_sequence g p d q line s e) u)
+
+-- A load sequence loads a word that is null or belongs to a block, and reports any other.
+abbrev pub LoadSequenceLoads : Type 0
+LoadSequenceLoads =
+    (g : ℕ) → 1 ≤ g → (call : Calls) (m frame w at line s e : ℕ) → LoadApart w line s e → (u : FPoint) → IsAddress (u.words at) 4
+    → DoesLoad (may_be_loaded g u.world.live (read Pointer u.world.memory (u.words at))) w at line s e u (act_all g call m frame (load_sequence g w at line s e) u)
