@@ -1,1 +1,5 @@
 pub mod CodeViewed
+pub mod Words
+pub mod Move
+pub mod Advance
+pub mod Load

@@ -6,3 +6,4 @@ pub mod Accounts
 pub mod Time
 pub mod Run
 pub mod Sequences
+pub mod Laws
