@@ -11,7 +11,7 @@ use Rattle.flat_code.specs.Told.{Tell, Stamped, Begins, AllBy}
 use Rattle.flat_code.specs.World.{read, zeroed, with_bytes, bytes_of, arguments, FWorld, FPoint, point, put, spend, tell, choose, Ending, Run, Way, onward, out_of, again}
 use Rattle.flat_code.specs.Accounts.{without, blocks_from, make, end, make_all, end_all, stack_under, stack_limit, most_calls, enter, leave, place_of, allot, malloc, heap_block, give_back, free}
 use Rattle.flat_code.specs.Time.{charge, turn_charge, call_charge, start_charge}
-use Rattle.flat_code.specs.Run.{goes, ends, access, get, environment, turns, inner_turns, Calls, act, act_all, returned, body_with, framed, framed_if, counted, no_calls, library, defined, call_none, call_one, calls, start, exited, flat_run}
+use Rattle.flat_code.specs.Run.{goes, ends, refusal, unless_refused, access, get, environment, turns, inner_turns, Calls, act, act_all, returned, body_with, framed, framed_if, counted, no_calls, library, defined, call_none, call_one, calls, start, exited, flat_run}
 use Rattle.flat_code.specs.Laws.{point_of, IsAfter, Advances, CallsAdvance, StepsAdvance, ProgramsAdvance, AllCame}
 
 -- ---- Worlds that come after one another
@@ -92,10 +92,11 @@ turns_advance body h (suc n) u =
     then_advances u (body t) (λ way s. again way s (turns n body)) (after u.world t.world _ (after_spend turn_charge u.world) (h t)) (λ way s. again_advances way s (turns n body) (turns_advance body h n s))
 
 access_advances : (at size : ℕ) (go : FPoint → Run Way) (u : FPoint) → Advances u (go u) → Advances u (access at size go u)
-access_advances at size go u h =
-    let same = at_once u.world in
-    by_test (nat_lt at 0x1000) u u _ _ same (by_test (nat_le (2 ^ 31) at) u u _ _ same (by_test (nat_le 0x2000000 at) u u _ _ same
-    (by_test (nat_lt at 0x200000) u u _ _ same (by_test (at % size == 0) u u _ _ h same))))
+access_advances at size go u h = by (refusal at size)
+  where
+    by : (o : Option Ending) → Advances u (unless_refused o go u)
+    by None = h
+    by (Some ending) = at_once u.world
 
 -- ---- Blocks and the environment
 

@@ -3,3 +3,4 @@ pub mod Words
 pub mod Move
 pub mod Advance
 pub mod Load
+pub mod Span

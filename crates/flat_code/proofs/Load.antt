@@ -16,34 +16,10 @@ use Rattle.flat_code.specs.Code.{FSteps, none, more, steps}
 use Rattle.flat_code.specs.Code.FStep.{Number, Arith, If, Slot, Look, Load, Report}
 use Rattle.flat_code.specs.Told.{Tell}
 use Rattle.flat_code.specs.World.{Words, with_word, read, FWorld, FPoint, point, spend, tell, choose, Ending, Run, Way, onward}
-use Rattle.flat_code.specs.Run.{Calls, access, act, act_all, slot_word, slot_or_ones}
-use Rattle.flat_code.specs.Sequences.{report, owned_steps, load_sequence, LoadApart, KeptBut, load_time, is_held, may_be_loaded, IsAddress, accessed, WasLoaded, WasRefused, DoesLoad}
+use Rattle.flat_code.specs.Run.{goes, Calls, refusal, unless_refused, loaded, act, act_all, slot_word, slot_or_ones}
+use Rattle.flat_code.specs.Sequences.{report, owned_steps, load_sequence, LoadApart, KeptBut, load_time, is_held, may_be_loaded, accessed, WasLoaded, WasRefused, DoesLoad}
 use Rattle.flat_code.specs.Laws.{LoadSequenceLoads}
 use Rattle.flat_code.proofs.Words.{set_same, set_other, takes_first, takes_second, arith_is}
-
-all_pass : (a b c d e : Bool) (f1 f2 f3 f4 go f5 : FPoint → Run Way) (u : FPoint) → a ≡ false → b ≡ false → c ≡ false → d ≡ false → e ≡ true → choose a f1 (choose b f2 (choose c f3 (choose d f4 (choose e go f5)))) u ≡ go u
-all_pass a b c d e f1 f2 f3 f4 go f5 u ha hb hc hd he =
-    ap (λ t. choose t f1 (choose b f2 (choose c f3 (choose d f4 (choose e go f5)))) u) ha
-    ∙ ap (λ t. choose t f2 (choose c f3 (choose d f4 (choose e go f5))) u) hb
-    ∙ ap (λ t. choose t f3 (choose d f4 (choose e go f5)) u) hc
-    ∙ ap (λ t. choose t f4 (choose e go f5) u) hd
-    ∙ ap (λ t. choose t go f5 u) he
-
--- an access that can be made
-pub access_goes : (at size : ℕ) (go : FPoint → Run Way) (u : FPoint) → IsAddress at size → access at size go u ≡ go u
-access_goes at size go u h =
-    all_pass (nat_lt at 0x1000) (nat_le (2 ^ 31) at) (nat_le 0x2000000 at) (nat_lt at 0x200000) (at % size == 0) _ _ _ _ go _ u
-    (above at 0x1000 (omega (arith, h.low))) (not_below at (omega (arith, h.high))) (not_past at h.high) (above at 0x200000 h.low)
-    (ap (λ n. n == 0) h.aligned)
-  where
-    above : (a b : ℕ) → b ≤ a → nat_lt a b ≡ false
-    above a b h = grind (arith, nat_tests)
-
-    not_below : (a : ℕ) → a < 2 ^ 31 → nat_le (2 ^ 31) a ≡ false
-    not_below a h = grind (arith, nat_tests)
-
-    not_past : (a : ℕ) → a < 0x2000000 → nat_le 0x2000000 a ≡ false
-    not_past a h = grind (arith, nat_tests)
 
 module _ (g : ℕ) (call : Calls) (m frame w at line s e : ℕ) (apart : LoadApart w line s e) (u : FPoint) where
   abbrev go : FSteps → Words → FWorld → Run Way
@@ -207,11 +183,11 @@ module _ (g : ℕ) (call : Calls) (m frame w at line s e : ℕ) (apart : LoadApa
       by (Some slot) k = by_test v3 x slot (arith_of op.Ltu slot (2 ^ (25 - g))) (nat_lt slot (2 ^ (25 - g))) refl refl spent_so (holds slot (Some slot) k refl)
 
   -- the whole sequence
-  pub load_does : 1 ≤ g → IsAddress (u.words at) 4 → DoesLoad (may_be_loaded g u.world.live W) w at line s e u (act_all g call m frame (load_sequence g w at line s e) u)
+  pub load_does : 1 ≤ g → refusal (u.words at) 4 ≡ None → DoesLoad (may_be_loaded g u.world.live W) w at line s e u (act_all g call m frame (load_sequence g w at line s e) u)
   unfolding and_then
   load_does low address =
       let loads : act_all g call m frame (load_sequence g w at line s e) u ≡ then_go (choose (v0 w == 0) (act_all g call m frame none) (act_all g call m frame (owned_steps g w line s e)) (point v0 (spend 6 w0))) none =
-      ap (λ r. then_go r (steps (If w (owned_steps g w line s e) none ∷ []))) (access_goes (u.words at) 4 _ (point u.words (spend 3 u.world)) address) in
+      ap (λ r. then_go r (steps (If w (owned_steps g w line s e) none ∷ []))) (ap (λ o. unless_refused o (λ t. goes (loaded w (u.words at) width.Pointer t)) (point u.words (spend 3 u.world))) address) in
       subst (λ r. DoesLoad (may_be_loaded g u.world.live W) w at line s e u r) (sym loads) (by_word W refl)
     where
       by_word : (n : ℕ) → W ≡ n → DoesLoad ((n == 0) || is_held g u.world.live (owner_slot g W)) w at line s e u

@@ -1,15 +1,16 @@
 -- What holds of flat code.
-use Rattle.std.specs.Prelude.{◌≡◌, ℕ, ◌-◌, ◌^◌, ◌<◌, ◌≤◌, List, ◌++◌, Some}
+use Rattle.std.specs.Prelude.{◌≡◌, ℕ, ◌-◌, ◌^◌, ◌<◌, ◌≤◌, List, ◌++◌, Some, None}
 use Rattle.bb_words.specs.Answers.{Answer}
+use Rattle.bb_words.specs.declared.kinds.ReportKind.TheVariants.{Bounds}
 use Rattle.bb_words.specs.declared.steps.Width.TheVariants.{Pointer}
 use Rattle.marked_ptr.specs.Marked.{owner_slot, moved}
 use Rattle.size_table.specs.Blocks.{Block}
 use Rattle.size_table.specs.Table.{byte_of}
 use Rattle.flat_code.specs.Code.{FSteps, FFunction, FCode}
 use Rattle.flat_code.specs.Told.{Begins, AllBy}
-use Rattle.flat_code.specs.World.{read, FWorld, FPoint, Run}
-use Rattle.flat_code.specs.Run.{Calls, act_all, calls, flat_run}
-use Rattle.flat_code.specs.Sequences.{move_sequence, MoveApart, DoesMove, move_time, load_sequence, LoadApart, IsAddress, may_be_loaded, DoesLoad}
+use Rattle.flat_code.specs.World.{Words, read, FWorld, FPoint, point, spend, Ending, Run, Way}
+use Rattle.flat_code.specs.Run.{refusal, Calls, act_all, calls, flat_run}
+use Rattle.flat_code.specs.Sequences.{move_sequence, MoveApart, DoesMove, move_time, load_sequence, LoadApart, may_be_loaded, DoesLoad, span_sequence, SpanApart, span_begin, SpanKept, DoesSpan}
 
 -- ---- What a run leaves behind
 
@@ -58,5 +59,21 @@ MoveSequenceMoves =
 -- A load sequence loads a word that is null or belongs to a block, and reports any other.
 abbrev pub LoadSequenceLoads : Type 0
 LoadSequenceLoads =
-    (g : ℕ) → 1 ≤ g → (call : Calls) (m frame w at line s e : ℕ) → LoadApart w line s e → (u : FPoint) → IsAddress (u.words at) 4
+    (g : ℕ) → 1 ≤ g → (call : Calls) (m frame w at line s e : ℕ) → LoadApart w line s e → (u : FPoint) → refusal (u.words at) 4 ≡ None
     → DoesLoad (may_be_loaded g u.world.live (read Pointer u.world.memory (u.words at))) w at line s e u (act_all g call m frame (load_sequence g w at line s e) u)
+
+-- A span sequence of n bytes, by the tests that come one after another: n is 0; n is above 16 MiB; the access to the first
+-- byte ends the run; or the pointer is moved by n - 1 to the last byte.
+pub record Spans (g m frame : ℕ) (call : Calls) (p n q line d s e : ℕ) (u : FPoint) (r : Run Way) : Type 0 where
+  pub nothing : u.words n ≡ 0 → (words : Words) × (r ≡ Answer.Goes Way.On (point words (spend span_begin u.world))) × SpanKept q d s e u.words words
+  pub too_long : 0x0100_0000 < u.words n → (words : Words) × (r ≡ Answer.Ends (Ending.Reported Bounds (u.words line)) (point words (spend 18 u.world)))
+  pub not_begun : (ending : Ending) → 1 ≤ u.words n → u.words n ≤ 0x0100_0000 → refusal (u.words p) 1 ≡ Some ending
+      → (words : Words) × (r ≡ Answer.Ends ending (point words (spend 23 u.world)))
+  pub begun : (slot : ℕ) → 1 ≤ u.words n → u.words n ≤ 0x0100_0000 → refusal (u.words p) 1 ≡ None
+      → owner_slot g (u.words p) ≡ Some slot → slot < 2 ^ (25 - g) → byte_of g u.world.live slot ≤ 24
+      → DoesSpan (moved g (u.words p) (u.words n - 1) (byte_of g u.world.live slot)) p q line d s e u r
+
+abbrev pub SpanSequenceSpans : Type 0
+SpanSequenceSpans =
+    (g : ℕ) → 1 ≤ g → g ≤ 24 → (call : Calls) (m frame p n q line d s e : ℕ) → SpanApart p n q line d s e → (u : FPoint)
+    → Spans g m frame call p n q line d s e u (act_all g call m frame (span_sequence g p n q line d s e) u)

@@ -7,3 +7,5 @@ pub mod Time
 pub mod Run
 pub mod Sequences
 pub mod Laws
+pub mod Recognized
+pub mod Weight
