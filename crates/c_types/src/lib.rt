@@ -1,6 +1,8 @@
 //! The typing of C: from a syntax tree to a typed program, or to the first rule that it breaks.
 #![tactic(auto)]
 
+pub mod binary;
 pub mod conversions;
 pub mod error;
 pub mod sizes;
+pub mod unary;
