@@ -65,3 +65,13 @@ points_to_complete structs CType.Int = false
 points_to_complete structs CType.Unsigned = false
 points_to_complete structs (CType.Struct k) = false
 points_to_complete structs (CType.Array t n) = false
+
+-- whether a type is void
+abbrev pub is_void : CType → Bool
+is_void CType.Void = true
+is_void CType.Char = false
+is_void CType.Int = false
+is_void CType.Unsigned = false
+is_void (CType.Struct k) = false
+is_void (CType.Pointer t) = false
+is_void (CType.Array t n) = false

@@ -136,3 +136,40 @@ fn may_point(ty: &Ty, e: &TypedExpr) -> bool
         || e.is_null()
         || (e.ty.is_pointer() && (is_void_pointer(ty) || is_void_pointer(&e.ty)))
 }
+
+/// Whether the type is that of numbers or of pointers.
+pub fn is_scalar(ty: &Ty) -> bool
+    ensures { result ≡ types.is_scalar (ty_of ty.now) }
+{
+    ty.is_number() || ty.is_pointer()
+}
+
+/// Whether the type is `void`.
+pub fn is_void(ty: &Ty) -> bool
+    ensures { result ≡ spec.is_void (ty_of ty.now) }
+{
+    match ty {
+        Ty::Void => true,
+        Ty::Char | Ty::Int | Ty::Unsigned | Ty::Struct(_) | Ty::Pointer(_) | Ty::Array(_, _) => false,
+    }
+}
+
+/// Whether the type is that of an array.
+pub fn is_array(ty: &Ty) -> bool
+    ensures { result ≡ types.is_array (ty_of ty.now) }
+{
+    match ty {
+        Ty::Array(_, _) => true,
+        Ty::Void | Ty::Char | Ty::Int | Ty::Unsigned | Ty::Struct(_) | Ty::Pointer(_) => false,
+    }
+}
+
+/// Whether the type is that of a struct.
+pub fn is_struct(ty: &Ty) -> bool
+    ensures { result ≡ types.is_struct (ty_of ty.now) }
+{
+    match ty {
+        Ty::Struct(_) => true,
+        Ty::Void | Ty::Char | Ty::Int | Ty::Unsigned | Ty::Pointer(_) | Ty::Array(_, _) => false,
+    }
+}
