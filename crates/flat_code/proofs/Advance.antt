@@ -4,15 +4,18 @@ use Rattle.std.specs.Prelude.{slice_get, ◌==◌}
 use Rattle.bb_words.specs.Answers.{Answer, and_then}
 use Rattle.bb_words.specs.Steps.{size_of_width}
 use Rattle.bb_words.specs.declared.steps.Width.{Width}
-use Rattle.size_table.specs.Blocks.{Block, block_at}
+use Rattle.size_table.specs.declared.memory_map.TheConstants.{STACK_START, MOST_CALLS, MOST_BYTES}
+use Rattle.size_table.specs.Blocks.{Block, block_at, without}
+use Rattle.size_table.specs.Made.{blocks_from}
+use Rattle.buddy_heap.specs.Places.{place_of}
 use Rattle.size_table.specs.Pads.{exponent_of}
-use Rattle.flat_code.specs.Code.{FStep, FSteps, FFunction, FCode}
-use Rattle.flat_code.specs.Told.{Tell, Stamped, Begins, AllBy}
-use Rattle.flat_code.specs.World.{read, zeroed, with_bytes, bytes_of, arguments, FWorld, FPoint, point, put, spend, tell, choose, Ending, Run, Way, onward, out_of, again}
-use Rattle.flat_code.specs.Accounts.{without, blocks_from, make, end, make_all, end_all, stack_under, stack_limit, most_calls, enter, leave, place_of, allot, malloc, heap_block, give_back, free}
-use Rattle.flat_code.specs.Time.{charge, turn_charge, call_charge, start_charge}
-use Rattle.flat_code.specs.Run.{goes, ends, refusal, unless_refused, access, get, environment, turns, inner_turns, Calls, act, act_all, returned, body_with, framed, framed_if, counted, no_calls, library, defined, call_none, call_one, calls, start, exited, flat_run}
-use Rattle.flat_code.specs.Laws.{point_of, IsAfter, Advances, CallsAdvance, StepsAdvance, ProgramsAdvance, AllCame}
+use Rattle.flat_code.specs.Code.{FStep, FSteps, FFunction}
+use Rattle.flat_code.specs.Told.{Tell, Stamped, AllBy}
+use Rattle.flat_code.specs.World.{zeroed, with_bytes, bytes_of, arguments, FWorld, FPoint, point, put, spend, tell, choose, Ending, Run, Way, onward, out_of, again}
+use Rattle.flat_code.specs.Accounts.{make, end, make_all, end_all, stack_under, enter, leave, allot, malloc, heap_block, give_back, free}
+use Rattle.flat_code.specs.Time.{charge, turn_charge, call_charge}
+use Rattle.flat_code.specs.Run.{goes, ends, refusal, unless_refused, access, get, environment, turns, inner_turns, Calls, act, act_all, returned, body_with, framed_if, counted, no_calls, library, defined, call_none, call_one, calls, start, exited, flat_run}
+use Rattle.flat_code.specs.Laws.{IsAfter, Advances, CallsAdvance, StepsAdvance, ProgramsAdvance, AllCame}
 
 -- ---- Worlds that come after one another
 
@@ -123,7 +126,7 @@ allot_advances to e None u = at_once u.world
 allot_advances to e (Some at) u = make_advances (block_at at e) u.world
 
 malloc_advances : (g to size : ℕ) (u : FPoint) → IsAfter u.world (malloc g to size u).world
-malloc_advances g to size u = by (nat_lt 0x1000000 size)
+malloc_advances g to size u = by (nat_lt MOST_BYTES size)
   where
     by : (t : Bool) → IsAfter u.world (choose t (λ (x : FPoint). put to 0 x) (λ (x : FPoint). allot to (exponent_of g size) (place_of x.world.live (exponent_of g size)) x) u).world
     by true = at_once u.world
@@ -225,7 +228,7 @@ framed_advances g line body args None u h = at_once u.world
 framed_advances g line body args (Some es) u h =
     let base = stack_under g u.world.stack es in
     let t : FPoint = point u.words (enter base es u.world) in
-    by_test (nat_lt base stack_limit) u u _ _ (at_once u.world)
+    by_test (nat_lt base STACK_START) u u _ _ (at_once u.world)
     (then_advances u (body_with body args t) (λ word s. Answer.Goes word (point s.words (leave es u.world s.world)))
     (after u.world t.world _ (enter_advances base es u.world) (body_advances body args t h))
     (λ word s. leave_advances es u.world s.world))
@@ -247,7 +250,7 @@ module _ (g : ℕ) (frames : List (List ℕ)) (m : ℕ) where
       (framed_advances g f.line (act_all g deeper m f.frame f.body) args (slice_get frames number) t (λ x. all_advance g deeper m f.frame h f.body x))
 
   counted_advances : (line : ℕ) (go : FPoint → Run ℕ) (u : FPoint) → Advances u (go u) → Advances u (counted line go u)
-  counted_advances line go u h = by_test (nat_le most_calls u.world.depth) u u _ _ (at_once u.world) h
+  counted_advances line go u h = by_test (nat_le MOST_CALLS u.world.depth) u u _ _ (at_once u.world) h
 
   module _ (functions : List FFunction) where
     none_advances : (f : Option FFunction) → CallsAdvance (call_none g frames m functions f)

@@ -4,3 +4,4 @@ pub mod Move
 pub mod Advance
 pub mod Load
 pub mod Span
+pub mod Worked

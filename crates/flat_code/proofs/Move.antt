@@ -1,30 +1,27 @@
 -- The move sequence does what a move's answer says.
-use Rattle.std.proofs.Common.{◌≡◌, ◌≢◌, ℕ, zero, suc, ◌+◌, ◌*◌, ◌-◌, ◌/◌, ◌%◌, ◌^◌, ◌<◌, ◌≤◌, List, [], ◌∷◌, ◌++◌, length, Option, Some, None, ◌⊎◌, inl, inr, Bool, true, false, cond, refl, sym, ap, ◌∙◌, subst, ⊎_elim, arith, pow-add, pow_pos, bit_and, bit_or, nat_lt}
+use Rattle.std.proofs.Common.{◌≡◌, ℕ, zero, suc, ◌+◌, ◌*◌, ◌-◌, ◌/◌, ◌%◌, ◌^◌, ◌<◌, ◌≤◌, [], ◌∷◌, Some, Bool, true, false, cond, refl, sym, ap, ◌∙◌, subst, arith, pow-add, pow_pos, bit_or, nat_lt}
 use Rattle.std.specs.Int.Bits.{or_zero_r}
 use Rattle.std.specs.Prelude.{◌==◌, if◌then◌else◌}
-use Rattle.std.proofs.lemmas.Bool.{cases_lt}
-use Rattle.std.proofs.Math.Dec.{eqb-suc-zero}
 use Rattle.std.proofs.lemmas.Bool.Decides.{nat_tests}
 use Rattle.std.proofs.Math.Pow.{pow_mono}
 use Rattle.std.proofs.Math.Nat.{mul-le-mul_left}
 use Rattle.std.proofs.lemmas.Nat.{div-add-mod', and_mask, or_block}
 use Rattle.bb_words.specs.Answers.{Answer, and_then}
-use Rattle.bb_words.specs.Steps.{arith as arith_of, flag}
-use Rattle.bb_words.specs.Numbers.{left_shift, right_shift, sum, difference, unsigned_below}
+use Rattle.bb_words.specs.Steps.{arith as arith_of}
+use Rattle.bb_words.specs.Numbers.{difference}
 use Rattle.bb_words.specs.declared.kinds.ReportKind.TheVariants.{Bounds}
-use Rattle.bb_words.specs.declared.steps.ArithOp.{ArithOp}
 use Rattle.bb_words.specs.declared.steps.ArithOp.TheVariants as op
-use Rattle.marked_ptr.specs.Marked.{half_slot, unmarked, marked, owner_slot, base_of, moved_address, moved, moved_from, inside, outside}
+use Rattle.marked_ptr.specs.Marked.{half_slot, unmarked, marked, owner_slot, base_of, moved_address, moved, inside, outside}
 use Rattle.marked_ptr.specs.Laws.{tested, MovesByTests}
 use Rattle.marked_ptr.specs.declared.answer.MoveAnswer.{MoveAnswer}
 use Rattle.marked_ptr.specs.declared.answer.MoveAnswer.TheVariants.{Inside, Marked, Report as Refused}
 use Rattle.size_table.specs.Table.{byte_of}
 use Rattle.flat_code.specs.Code.{FSteps, none, more, ◌+++◌, steps}
-use Rattle.flat_code.specs.Code.FStep.{Number, Arith, If, Slot, Look, Checked, Report}
+use Rattle.flat_code.specs.Code.FStep.{Number, Arith, If, Checked}
 use Rattle.flat_code.specs.Told.{Tell}
 use Rattle.flat_code.specs.World.{Words, with_word, FWorld, FPoint, point, spend, tell, choose, Ending, Run, Way, onward}
-use Rattle.flat_code.specs.Run.{Calls, act, act_all, slot_word, slot_or_ones}
-use Rattle.flat_code.specs.Sequences.{report, address_steps, mark_steps, outside_steps, move_sequence, MoveApart, KeptBut, WentOn, WasReported, DoesMove, move_time}
+use Rattle.flat_code.specs.Run.{Calls, act_all, slot_word, slot_or_ones}
+use Rattle.flat_code.specs.Sequences.{report, address_steps, mark_steps, outside_steps, move_sequence, MoveApart, KeptBut, WentOn, DoesMove, move_time}
 use Rattle.flat_code.proofs.Words.{set_same, set_other, spend_spend, arith_is, takes_first, takes_second}
 
 -- a word with bit 31

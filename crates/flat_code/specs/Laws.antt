@@ -62,6 +62,12 @@ LoadSequenceLoads =
     (g : ℕ) → 1 ≤ g → (call : Calls) (m frame w at line s e : ℕ) → LoadApart w line s e → (u : FPoint) → refusal (u.words at) 4 ≡ None
     → DoesLoad (may_be_loaded g u.world.live (read Pointer u.world.memory (u.words at))) w at line s e u (act_all g call m frame (load_sequence g w at line s e) u)
 
+-- A load sequence whose access ends the run ends it so.
+abbrev pub LoadSequenceStops : Type 0
+LoadSequenceStops =
+    (g : ℕ) (call : Calls) (m frame w at line s e : ℕ) (u : FPoint) (ending : Ending) → refusal (u.words at) 4 ≡ Some ending
+    → act_all g call m frame (load_sequence g w at line s e) u ≡ Answer.Ends ending (point u.words (spend 3 u.world))
+
 -- A span sequence of n bytes, by the tests that come one after another: n is 0; n is above 16 MiB; the access to the first
 -- byte ends the run; or the pointer is moved by n - 1 to the last byte.
 pub record Spans (g m frame : ℕ) (call : Calls) (p n q line d s e : ℕ) (u : FPoint) (r : Run Way) : Type 0 where

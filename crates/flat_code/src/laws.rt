@@ -1,5 +1,6 @@
 //! What holds of flat code, for what stands on it.
-ghost use Rattle.flat_code.specs.Laws.{StepsAdvance, ProgramsAdvance, AllCame, MoveSequenceMoves, LoadSequenceLoads, SpanSequenceSpans};
+ghost use Rattle.flat_code.specs.Laws.{StepsAdvance, ProgramsAdvance, AllCame, MoveSequenceMoves, LoadSequenceLoads, LoadSequenceStops, SpanSequenceSpans};
+ghost use Rattle.flat_code.specs.Examples.{ExamplesRun, ExamplesWeigh};
 
 /// Steps only add to what was told, from any point, and take time.
 pub fn steps_advance()
@@ -34,3 +35,18 @@ pub fn span_sequence_spans()
 {
     marked_ptr::laws::moves_by_tests();
 }
+
+/// A load sequence whose access ends the run ends it so.
+pub fn load_sequence_stops()
+    ensures { LoadSequenceStops }
+{}
+
+/// What some small programs do.
+pub fn examples_run()
+    ensures { ExamplesRun }
+{}
+
+/// What some sequences of steps weigh.
+pub fn examples_weigh()
+    ensures { ExamplesWeigh }
+{}
