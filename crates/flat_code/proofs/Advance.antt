@@ -74,21 +74,21 @@ unfolding and_then
 then_advances u (Answer.Goes a t) f h k = after u.world t.world _ h (k a t)
 then_advances u (Answer.Ends o t) f h k = h
 
-by_test : {A : Type 0} (t : Bool) (u v : FPoint) (a b : FPoint → Run A) → Advances u (a v) → Advances u (b v) → Advances u (choose t a b v)
+pub by_test : {A : Type 0} (t : Bool) (u v : FPoint) (a b : FPoint → Run A) → Advances u (a v) → Advances u (b v) → Advances u (choose t a b v)
 by_test true u v a b h k = h
 by_test false u v a b h k = k
 
-onward_advances : (way : Way) (u : FPoint) (go : FPoint → Run Way) → Advances u (go u) → Advances u (onward way u go)
+pub onward_advances : (way : Way) (u : FPoint) (go : FPoint → Run Way) → Advances u (go u) → Advances u (onward way u go)
 onward_advances Way.On u go h = h
 onward_advances (Way.Out n) u go h = at_once u.world
 onward_advances (Way.Back x) u go h = at_once u.world
 
-again_advances : (way : Way) (u : FPoint) (go : FPoint → Run Way) → Advances u (go u) → Advances u (again way u go)
+pub again_advances : (way : Way) (u : FPoint) (go : FPoint → Run Way) → Advances u (go u) → Advances u (again way u go)
 again_advances Way.On u go h = h
 again_advances (Way.Out n) u go h = at_once u.world
 again_advances (Way.Back x) u go h = at_once u.world
 
-turns_advance : (body : FPoint → Run Way) → ((u : FPoint) → Advances u (body u)) → (n : ℕ) (u : FPoint) → Advances u (turns n body u)
+pub turns_advance : (body : FPoint → Run Way) → ((u : FPoint) → Advances u (body u)) → (n : ℕ) (u : FPoint) → Advances u (turns n body u)
 turns_advance body h zero u = at_once u.world
 turns_advance body h (suc n) u =
     let t : FPoint = point u.words (spend turn_charge u.world) in
@@ -202,18 +202,18 @@ steps_advance g call m frame advance xs u = all_advance g call m frame advance x
 
 -- ---- Calls
 
-returned_advances : (way : Way) (u : FPoint) → Advances u (returned way u)
+pub returned_advances : (way : Way) (u : FPoint) → Advances u (returned way u)
 returned_advances Way.On u = at_once u.world
 returned_advances (Way.Out n) u = at_once u.world
 returned_advances (Way.Back word) u = at_once u.world
 
-body_advances : (body : FPoint → Run Way) (args : List ℕ) (u : FPoint) → ((t : FPoint) → Advances t (body t)) → Advances u (body_with body args u)
+pub body_advances : (body : FPoint → Run Way) (args : List ℕ) (u : FPoint) → ((t : FPoint) → Advances t (body t)) → Advances u (body_with body args u)
 body_advances body args u h =
     let t : FPoint = point (arguments args) u.world in
     then_advances u (and_then (body t) returned) (λ word s. Answer.Goes word (point u.words s.world))
     (then_advances u (body t) returned (h t) returned_advances) (λ word s. at_once s.world)
 
-leave_advances : (es : List ℕ) (caller w : FWorld) → IsAfter w (leave es caller w)
+pub leave_advances : (es : List ℕ) (caller w : FWorld) → IsAfter w (leave es caller w)
 leave_advances es caller w =
     let done = end_all (reverse (blocks_from w.stack es)) w in
     after w done _ (end_all_advances (reverse (blocks_from w.stack es)) w) (stays done (leave es caller w) refl refl refl)
@@ -223,7 +223,7 @@ enter_advances base es w =
     let begun : FWorld = record w { depth = w.depth + 1; stack = base } in
     after w begun _ (stays w begun refl refl refl) (make_all_advances (blocks_from base es) begun)
 
-framed_advances : (g line : ℕ) (body : FPoint → Run Way) (args : List ℕ) (frame : Option (List ℕ)) (u : FPoint) → ((t : FPoint) → Advances t (body t)) → Advances u (framed_if g line body args frame u)
+pub framed_advances : (g line : ℕ) (body : FPoint → Run Way) (args : List ℕ) (frame : Option (List ℕ)) (u : FPoint) → ((t : FPoint) → Advances t (body t)) → Advances u (framed_if g line body args frame u)
 framed_advances g line body args None u h = at_once u.world
 framed_advances g line body args (Some es) u h =
     let base = stack_under g u.world.stack es in
@@ -233,31 +233,31 @@ framed_advances g line body args (Some es) u h =
     (after u.world t.world _ (enter_advances base es u.world) (body_advances body args t h))
     (λ word s. leave_advances es u.world s.world))
 
-no_calls_advance : CallsAdvance no_calls
+pub no_calls_advance : CallsAdvance no_calls
 no_calls_advance function args u = at_once u.world
 
 module _ (g : ℕ) (frames : List (List ℕ)) (m : ℕ) where
-  library_advances : (f : FFunction) (args : List ℕ) (u : FPoint) → Advances u (library g frames m f args u)
+  pub library_advances : (f : FFunction) (args : List ℕ) (u : FPoint) → Advances u (library g frames m f args u)
   library_advances f args u =
       let t : FPoint = point u.words (spend (call_charge f) u.world) in
       after u.world t.world _ (after_spend (call_charge f) u.world)
       (body_advances (act_all g no_calls m 0 f.body) args t (λ x. all_advance g no_calls m 0 no_calls_advance f.body x))
 
-  defined_advances : (deeper : Calls) → CallsAdvance deeper → (number : ℕ) (f : FFunction) (args : List ℕ) (u : FPoint) → Advances u (defined g frames m deeper number f args u)
+  pub defined_advances : (deeper : Calls) → CallsAdvance deeper → (number : ℕ) (f : FFunction) (args : List ℕ) (u : FPoint) → Advances u (defined g frames m deeper number f args u)
   defined_advances deeper h number f args u =
       let t : FPoint = point u.words (spend (call_charge f) u.world) in
       after u.world t.world _ (after_spend (call_charge f) u.world)
       (framed_advances g f.line (act_all g deeper m f.frame f.body) args (slice_get frames number) t (λ x. all_advance g deeper m f.frame h f.body x))
 
-  counted_advances : (line : ℕ) (go : FPoint → Run ℕ) (u : FPoint) → Advances u (go u) → Advances u (counted line go u)
+  pub counted_advances : (line : ℕ) (go : FPoint → Run ℕ) (u : FPoint) → Advances u (go u) → Advances u (counted line go u)
   counted_advances line go u h = by_test (nat_le MOST_CALLS u.world.depth) u u _ _ (at_once u.world) h
 
   module _ (functions : List FFunction) where
-    none_advances : (f : Option FFunction) → CallsAdvance (call_none g frames m functions f)
+    pub none_advances : (f : Option FFunction) → CallsAdvance (call_none g frames m functions f)
     none_advances None number args u = at_once u.world
     none_advances (Some f) number args u = by_test (f.line == 0) u u _ _ (library_advances f args u) (counted_advances f.line (ends Ending.Cut) u (at_once u.world))
 
-    one_advances : (deeper : Calls) → CallsAdvance deeper → (f : Option FFunction) → CallsAdvance (call_one g frames m functions deeper f)
+    pub one_advances : (deeper : Calls) → CallsAdvance deeper → (f : Option FFunction) → CallsAdvance (call_one g frames m functions deeper f)
     one_advances deeper h None number args u = at_once u.world
     one_advances deeper h (Some f) number args u =
         by_test (f.line == 0) u u _ _ (library_advances f args u) (counted_advances f.line (defined g frames m deeper number f args) u (defined_advances deeper h number f args u))

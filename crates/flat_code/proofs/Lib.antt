@@ -5,3 +5,4 @@ pub mod Advance
 pub mod Load
 pub mod Span
 pub mod Worked
+pub mod More

@@ -1,5 +1,5 @@
 -- What holds of flat code.
-use Rattle.std.specs.Prelude.{◌≡◌, ℕ, ◌-◌, ◌^◌, ◌<◌, ◌≤◌, List, ◌++◌, Some, None}
+use Rattle.std.specs.Prelude.{◌≡◌, ◌⊎◌, ℕ, ◌-◌, ◌^◌, ◌<◌, ◌≤◌, List, ◌++◌, Some, None}
 use Rattle.bb_words.specs.Answers.{Answer}
 use Rattle.bb_words.specs.declared.kinds.ReportKind.TheVariants.{Bounds}
 use Rattle.bb_words.specs.declared.steps.Width.TheVariants.{Pointer}
@@ -46,6 +46,18 @@ ProgramsAdvance = (g : ℕ) (frames : List (List ℕ)) (m : ℕ) (functions : Li
 abbrev pub AllCame : Type 0
 AllCame = (g : ℕ) (code : FCode) (globals : List Block) (frames : List (List ℕ)) (input : List ℕ) (m : ℕ) →
     let w = (point_of (flat_run g code globals frames input m)).world in AllBy w.time w.told
+
+-- ---- More turns and calls
+
+-- One run extends to another: they are the same; or the first is cut, and the second comes after the point at which it is.
+abbrev pub Extends : {A : Type 0} → (r more : Run A) → Type 0
+Extends r more = (r ≡ more) ⊎ ((cut : FPoint) × (r ≡ Answer.Ends Ending.Cut cut) × IsAfter cut.world (point_of more).world)
+
+-- With more turns for its loops and more nested calls a run that has ended is the same, and one that is cut goes on.
+abbrev pub MoreTurnsExtend : Type 0
+MoreTurnsExtend =
+    (g : ℕ) (code : FCode) (globals : List Block) (frames : List (List ℕ)) (input : List ℕ) (m n : ℕ) → m ≤ n
+    → Extends (flat_run g code globals frames input m) (flat_run g code globals frames input n)
 
 -- ---- Sequences
 

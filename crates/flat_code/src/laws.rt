@@ -1,5 +1,5 @@
 //! What holds of flat code, for what stands on it.
-ghost use Rattle.flat_code.specs.Laws.{StepsAdvance, ProgramsAdvance, AllCame, MoveSequenceMoves, LoadSequenceLoads, LoadSequenceStops, SpanSequenceSpans};
+ghost use Rattle.flat_code.specs.Laws.{StepsAdvance, ProgramsAdvance, AllCame, MoreTurnsExtend, MoveSequenceMoves, LoadSequenceLoads, LoadSequenceStops, SpanSequenceSpans};
 ghost use Rattle.flat_code.specs.Examples.{ExamplesRun, ExamplesWeigh};
 
 /// Steps only add to what was told, from any point, and take time.
@@ -15,6 +15,11 @@ pub fn programs_advance()
 /// All that a run has told came by its time.
 pub fn all_came()
     ensures { AllCame }
+{}
+
+/// With more turns and calls a run that has ended is the same, and one that is cut goes on.
+pub fn more_turns_extend()
+    ensures { MoreTurnsExtend }
 {}
 
 /// A move sequence does what the move of words answers.
