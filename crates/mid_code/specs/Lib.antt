@@ -8,3 +8,4 @@ pub mod Safe
 pub mod Weight
 pub mod Views
 pub mod Laws
+pub mod Examples
