@@ -10,11 +10,13 @@ use Rattle.size_table.specs.Made.{blocks_from}
 use Rattle.buddy_heap.specs.Places.{place_of}
 use Rattle.size_table.specs.Pads.{exponent_of}
 use Rattle.flat_code.specs.Code.{FStep, FSteps, FFunction}
-use Rattle.flat_code.specs.Told.{Tell, Stamped, AllBy}
+use Rattle.flat_code.specs.Told.{tells, Tell, Stamped, AllBy}
+use Rattle.flat_code.specs.Safety.{live_after, live_of}
 use Rattle.flat_code.specs.World.{zeroed, with_bytes, bytes_of, arguments, FWorld, FPoint, point, put, spend, tell, choose, Ending, Run, Way, onward, out_of, again}
 use Rattle.flat_code.specs.Accounts.{make, end, make_all, end_all, stack_under, enter, leave, allot, malloc, heap_block, give_back, free}
 use Rattle.flat_code.specs.Time.{charge, turn_charge, call_charge}
 use Rattle.flat_code.specs.Run.{goes, ends, refusal, unless_refused, access, get, environment, turns, inner_turns, Calls, act, act_all, returned, body_with, framed_if, counted, no_calls, library, defined, call_none, call_one, calls, start, exited, flat_run}
+use Rattle.flat_code.proofs.Fronts.{tells_append, live_appends}
 use Rattle.flat_code.specs.Laws.{IsAfter, Advances, CallsAdvance, StepsAdvance, ProgramsAdvance, AllCame}
 
 -- ---- Worlds that come after one another
@@ -28,9 +30,10 @@ all_by_append t [] ys h k = k
 all_by_append t (x ∷ xs) ys h k = (h.0, all_by_append t xs ys h.1 k)
 
 -- what tells nothing, and takes no time and no input
-pub stays : (old new : FWorld) → new.told ≡ old.told → new.time ≡ old.time → new.input ≡ old.input → IsAfter old new
-stays old new t c i = record {
+pub stays : (old new : FWorld) → new.told ≡ old.told → new.live ≡ old.live → new.time ≡ old.time → new.input ≡ old.input → IsAfter old new
+stays old new t l c i = record {
   told = record { rest = []; is = t ∙ sym (append-nil old.told) };
+  live = l;
   later = (let q : old.time ≤ new.time = omega (arith, c) in q);
   by = λ h. subst (λ x. AllBy x new.told) (sym c) (subst (λ x. AllBy old.time x) (sym t) h);
   taken = [];
@@ -38,11 +41,12 @@ stays old new t c i = record {
 }
 
 pub at_once : (w : FWorld) → IsAfter w w
-at_once w = stays w w refl refl refl
+at_once w = stays w w refl refl refl refl
 
 pub after : (a b c : FWorld) → IsAfter a b → IsAfter b c → IsAfter a c
 after a b c h k = record {
   told = record { rest = h.told.rest ++ k.told.rest; is = k.told.is ∙ ap (λ x. x ++ k.told.rest) h.told.is ∙ append_assoc a.told h.told.rest k.told.rest };
+  live = k.live ∙ ap (λ x. live_of x (tells k.told.rest)) h.live ∙ sym (ap (live_of a.live) (tells_append h.told.rest k.told.rest) ∙ live_appends a.live (tells h.told.rest) (tells k.told.rest));
   later = omega (arith, h.later, k.later);
   by = λ x. k.by (h.by x);
   taken = h.taken ++ k.taken;
@@ -52,20 +56,26 @@ after a b c h k = record {
 pub after_spend : (n : ℕ) (w : FWorld) → IsAfter w (spend n w)
 after_spend n w = record {
   told = record { rest = []; is = sym (append-nil w.told) };
+  live = refl;
   later = (let q : w.time ≤ w.time + n = omega arith in q);
   by = λ h. all_by_later w.time (w.time + n) w.told (omega arith) h;
   taken = [];
   input = refl;
 }
 
-pub after_tell : (what : Tell) (w : FWorld) → IsAfter w (tell what w)
-after_tell what w = record {
-  told = record { rest = record { time = w.time; what = what } ∷ []; is = refl };
-  later = (let q : w.time ≤ w.time = omega arith in q);
-  by = λ h. all_by_append w.time w.told (record { time = w.time; what = what } ∷ []) h (let q : w.time ≤ w.time = omega arith in q, tt);
+-- something is told in a world that differs from one before by its memory, and by the blocks that it tells
+after_telling : (what : Tell) (old w : FWorld) → w.told ≡ old.told → w.time ≡ old.time → w.input ≡ old.input → w.live ≡ live_after what old.live → IsAfter old (tell what w)
+after_telling what old w t c i l = record {
+  told = record { rest = record { time = w.time; what = what } ∷ []; is = ap (λ x. x ++ record { time = w.time; what = what } ∷ []) t };
+  live = l;
+  later = (let q : old.time ≤ w.time = omega (arith, c) in q);
+  by = λ h. all_by_append w.time w.told (record { time = w.time; what = what } ∷ []) (subst (λ x. AllBy x w.told) (sym c) (subst (λ x. AllBy old.time x) (sym t) h)) (let q : w.time ≤ w.time = omega arith in q, tt);
   taken = [];
-  input = refl;
+  input = sym i;
 }
+
+pub after_tell : (what : Tell) (w : FWorld) → w.live ≡ live_after what w.live → IsAfter w (tell what w)
+after_tell what w l = after_telling what w w refl refl refl l
 
 -- ---- Answers
 
@@ -106,12 +116,12 @@ access_advances at size go u h = by (refusal at size)
 make_advances : (b : Block) (w : FWorld) → IsAfter w (make b w)
 make_advances b w =
     let next : FWorld = record w { memory = zeroed w.memory b.base (2 ^ b.exponent); live = w.live ++ b ∷ [] } in
-    after w next _ (stays w next refl refl refl) (after_tell (Tell.Made b.base b.exponent) next)
+    after_telling (Tell.Made b.base b.exponent) w next refl refl refl refl
 
 end_advances : (b : Block) (w : FWorld) → IsAfter w (end b w)
 end_advances b w =
     let next : FWorld = record w { live = without b.base w.live } in
-    after w next _ (stays w next refl refl refl) (after_tell (Tell.Ended b.base b.exponent) next)
+    after_telling (Tell.Ended b.base b.exponent) w next refl refl refl refl
 
 make_all_advances : (bs : List Block) (w : FWorld) → IsAfter w (make_all bs w)
 make_all_advances [] w = at_once w
@@ -143,6 +153,7 @@ get_advances : (to : ℕ) (input : List ℕ) (u : FPoint) → u.world.input ≡ 
 get_advances to [] u q = at_once u.world
 get_advances to (byte ∷ bytes) u q = record {
   told = record { rest = []; is = sym (append-nil u.world.told) };
+  live = refl;
   later = (let z : u.world.time ≤ u.world.time = omega arith in z);
   by = λ h. h;
   taken = byte ∷ [];
@@ -153,7 +164,7 @@ environment_advances : (g to call a b : ℕ) (u : FPoint) → Advances u (enviro
 environment_advances g to call a b u =
     let same = at_once u.world in
     by_test (call == 1) u u _ _ same (by_test (call == 2) u u _ _ (get_advances to u.world.input u refl)
-    (by_test (call == 3) u u _ _ (after_tell (Tell.Output (a % 256)) u.world)
+    (by_test (call == 3) u u _ _ (after_tell (Tell.Output (a % 256)) u.world refl)
     (by_test (call == 4) u u _ _ (malloc_advances g to a u)
     (by_test (call == 5) u u _ _ (free_advances a b (put to a u)) same))))
 
@@ -164,7 +175,7 @@ module _ (g : ℕ) (call : Calls) (m frame : ℕ) (advance : CallsAdvance call) 
       → IsAfter u.world (tell (Tell.Access (u.words at) (size_of_width width) true) (record u.world { memory = with_bytes u.world.memory (u.words at) (bytes_of (size_of_width width) (u.words from)) }))
   stored u at from width =
       let next : FWorld = record u.world { memory = with_bytes u.world.memory (u.words at) (bytes_of (size_of_width width) (u.words from)) } in
-      after u.world next _ (stays u.world next refl refl refl) (after_tell (Tell.Access (u.words at) (size_of_width width) true) next)
+      after_telling (Tell.Access (u.words at) (size_of_width width) true) u.world next refl refl refl refl
 
   mutual
     pub act_advances : (x : FStep) (u : FPoint) → Advances u (act g call m frame x u)
@@ -182,10 +193,10 @@ module _ (g : ℕ) (call : Calls) (m frame : ℕ) (advance : CallsAdvance call) 
     act_advances (FStep.Slot to from) u = at_once u.world
     act_advances (FStep.Look to slot) u = by_test (nat_lt (u.words slot) (2 ^ (25 - g))) u u _ _ (at_once u.world) (at_once u.world)
     act_advances (FStep.FrameAt to offset) u = by_test (nat_lt offset frame) u u _ _ (at_once u.world) (at_once u.world)
-    act_advances (FStep.Load to at width) u = access_advances (u.words at) (size_of_width width) _ u (after_tell (Tell.Access (u.words at) (size_of_width width) false) u.world)
+    act_advances (FStep.Load to at width) u = access_advances (u.words at) (size_of_width width) _ u (after_tell (Tell.Access (u.words at) (size_of_width width) false) u.world refl)
     act_advances (FStep.Store at from width) u = access_advances (u.words at) (size_of_width width) _ u (stored u at from width)
-    act_advances (FStep.Checked from to) u = after_tell (Tell.Move (u.words from) (u.words to)) u.world
-    act_advances (FStep.LineMark line) u = after_tell (Tell.Line line) u.world
+    act_advances (FStep.Checked from to) u = after_tell (Tell.Move (u.words from) (u.words to)) u.world refl
+    act_advances (FStep.LineMark line) u = after_tell (Tell.Line line) u.world refl
     act_advances (FStep.Report kind line) u = at_once u.world
     act_advances (FStep.Env to number a b) u = environment_advances g to number (u.words a) (u.words b) u
 
@@ -216,12 +227,12 @@ body_advances body args u h =
 pub leave_advances : (es : List ℕ) (caller w : FWorld) → IsAfter w (leave es caller w)
 leave_advances es caller w =
     let done = end_all (reverse (blocks_from w.stack es)) w in
-    after w done _ (end_all_advances (reverse (blocks_from w.stack es)) w) (stays done (leave es caller w) refl refl refl)
+    after w done _ (end_all_advances (reverse (blocks_from w.stack es)) w) (stays done (leave es caller w) refl refl refl refl)
 
 enter_advances : (base : ℕ) (es : List ℕ) (w : FWorld) → IsAfter w (enter base es w)
 enter_advances base es w =
     let begun : FWorld = record w { depth = w.depth + 1; stack = base } in
-    after w begun _ (stays w begun refl refl refl) (make_all_advances (blocks_from base es) begun)
+    after w begun _ (stays w begun refl refl refl refl) (make_all_advances (blocks_from base es) begun)
 
 pub framed_advances : (g line : ℕ) (body : FPoint → Run Way) (args : List ℕ) (frame : Option (List ℕ)) (u : FPoint) → ((t : FPoint) → Advances t (body t)) → Advances u (framed_if g line body args frame u)
 framed_advances g line body args None u h = at_once u.world

@@ -6,3 +6,4 @@ pub mod Load
 pub mod Span
 pub mod Worked
 pub mod More
+pub mod Fronts

@@ -1,16 +1,15 @@
 -- With more turns and calls a run that has ended is the same, and one that is cut goes on.
-use Rattle.std.proofs.Common.{◌≡◌, ◌⊎◌, ℕ, zero, suc, ◌+◌, ◌-◌, ◌≤◌, ◌%◌, ◌^◌, Bool, true, false, List, [], ◌∷◌, map, Option, Some, None, inl, inr, refl, sym, ap, ◌∙◌, subst, nat_lt, nat_le, arith, max}
+use Rattle.std.proofs.Common.{ℕ, zero, suc, ◌≤◌, Bool, true, false, List, [], map, Option, Some, None, inl, inr, refl, ap, subst, nat_lt, nat_le, arith, max}
 use Rattle.std.specs.Prelude.{slice_get, ◌==◌}
 use Rattle.bb_words.specs.Answers.{Answer, and_then}
 use Rattle.size_table.specs.declared.memory_map.TheConstants.{STACK_START, MOST_CALLS}
-use Rattle.size_table.specs.Blocks.{Block}
-use Rattle.flat_code.specs.Code.{FStep, FSteps, FFunction, FCode}
-use Rattle.flat_code.specs.World.{arguments, FWorld, FPoint, point, put, spend, choose, Ending, Run, Way, onward, out_of, again}
+use Rattle.flat_code.specs.Code.{FStep, FSteps, FFunction}
+use Rattle.flat_code.specs.World.{arguments, FPoint, point, put, spend, choose, Ending, Run, Way, onward, out_of, again}
 use Rattle.flat_code.specs.Accounts.{stack_under, enter, leave}
 use Rattle.flat_code.specs.Time.{charge, turn_charge, call_charge}
-use Rattle.flat_code.specs.Run.{goes, ends, turns, inner_turns, Calls, act, act_all, returned, body_with, framed_if, counted, no_calls, library, defined, call_none, call_one, calls, start, exited, flat_run}
+use Rattle.flat_code.specs.Run.{goes, ends, turns, inner_turns, Calls, act, act_all, returned, body_with, framed_if, no_calls, library, defined, call_none, call_one, calls, start, exited}
 use Rattle.flat_code.specs.Laws.{point_of, IsAfter, Advances, CallsAdvance, Extends, MoreTurnsExtend}
-use Rattle.flat_code.proofs.Advance.{at_once, after, then_advances, onward_advances, again_advances, turns_advance, all_advance, body_advances, framed_advances, leave_advances, no_calls_advance, library_advances, defined_advances, counted_advances, one_advances, calls_advance}
+use Rattle.flat_code.proofs.Advance.{at_once, after, onward_advances, again_advances, turns_advance, all_advance, leave_advances, no_calls_advance, defined_advances, calls_advance}
 
 same : {A : Type 0} (r : Run A) → Extends r r
 same r = inl refl

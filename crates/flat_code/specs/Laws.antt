@@ -1,5 +1,5 @@
 -- What holds of flat code.
-use Rattle.std.specs.Prelude.{◌≡◌, ◌⊎◌, ℕ, ◌-◌, ◌^◌, ◌<◌, ◌≤◌, List, ◌++◌, Some, None}
+use Rattle.std.specs.Prelude.{◌≡◌, ◌⊎◌, ◌↔◌, ℕ, ◌-◌, ◌^◌, ◌<◌, ◌≤◌, List, ◌++◌, Some, None}
 use Rattle.bb_words.specs.Answers.{Answer}
 use Rattle.bb_words.specs.declared.kinds.ReportKind.TheVariants.{Bounds}
 use Rattle.bb_words.specs.declared.steps.Width.TheVariants.{Pointer}
@@ -7,10 +7,32 @@ use Rattle.marked_ptr.specs.Marked.{owner_slot, moved}
 use Rattle.size_table.specs.Blocks.{Block}
 use Rattle.size_table.specs.Table.{byte_of}
 use Rattle.flat_code.specs.Code.{FSteps, FFunction, FCode}
-use Rattle.flat_code.specs.Told.{Begins, AllBy}
+use Rattle.flat_code.specs.Told.{Tell, Stamped, tells, output_of, trail_of, Begins, AllBy}
+use Rattle.flat_code.specs.Safety.{live_of, ever_of, AllSafe}
 use Rattle.flat_code.specs.World.{Words, read, FWorld, FPoint, point, spend, Ending, Run, Way}
 use Rattle.flat_code.specs.Run.{refusal, Calls, act_all, calls, flat_run}
 use Rattle.flat_code.specs.Sequences.{move_sequence, MoveApart, DoesMove, move_time, load_sequence, LoadApart, may_be_loaded, DoesLoad, span_sequence, SpanApart, span_begin, SpanKept, DoesSpan}
+
+-- ---- What was told, in parts
+
+abbrev pub TellsAppend : Type 0
+TellsAppend = (xs ys : List Stamped) → tells (xs ++ ys) ≡ tells xs ++ tells ys
+
+abbrev pub OutputAppends : Type 0
+OutputAppends = (xs ys : List Tell) → output_of (xs ++ ys) ≡ output_of xs ++ output_of ys
+
+abbrev pub TrailAppends : Type 0
+TrailAppends = (xs ys : List Tell) → trail_of (xs ++ ys) ≡ trail_of xs ++ trail_of ys
+
+abbrev pub LiveAppends : Type 0
+LiveAppends = (live : List Block) (xs ys : List Tell) → live_of live (xs ++ ys) ≡ live_of (live_of live xs) ys
+
+abbrev pub EverAppends : Type 0
+EverAppends = (ever : List Block) (xs ys : List Tell) → ever_of ever (xs ++ ys) ≡ ever_of (ever_of ever xs) ys
+
+-- two lists are safe one after the other exactly if the first is, and the second with the blocks after the first
+abbrev pub SafeAppends : Type 0
+SafeAppends = (g : ℕ) (live ever : List Block) (xs ys : List Tell) → AllSafe g live ever (xs ++ ys) ↔ (AllSafe g live ever xs × AllSafe g (live_of live xs) (ever_of ever xs) ys)
 
 -- ---- What a run leaves behind
 
@@ -19,10 +41,11 @@ abbrev pub point_of : {A : Type 0} → Run A → FPoint
 point_of (Answer.Goes a u) = u
 point_of (Answer.Ends ending u) = u
 
--- A world comes after another: what was told stays told, time goes on, bytes of the input were taken, and where everything
--- told had come by the time, it still has.
+-- A world comes after another: what was told stays told, the blocks that live are those of what was told since, time goes
+-- on, bytes of the input were taken, and where everything told had come by the time, it still has.
 pub record IsAfter (old new : FWorld) : Type 0 where
   pub told : Begins new.told old.told
+  pub live : new.live ≡ live_of old.live (tells told.rest)
   pub later : old.time ≤ new.time
   pub by : AllBy old.time old.told → AllBy new.time new.told
   pub taken : List ℕ

@@ -10,3 +10,4 @@ pub mod Laws
 pub mod Recognized
 pub mod Weight
 pub mod Examples
+pub mod Safety

@@ -1,6 +1,36 @@
 //! What holds of flat code, for what stands on it.
-ghost use Rattle.flat_code.specs.Laws.{StepsAdvance, ProgramsAdvance, AllCame, MoreTurnsExtend, MoveSequenceMoves, LoadSequenceLoads, LoadSequenceStops, SpanSequenceSpans};
+ghost use Rattle.flat_code.specs.Laws.{TellsAppend, OutputAppends, TrailAppends, LiveAppends, EverAppends, SafeAppends, StepsAdvance, ProgramsAdvance, AllCame, MoreTurnsExtend, MoveSequenceMoves, LoadSequenceLoads, LoadSequenceStops, SpanSequenceSpans};
 ghost use Rattle.flat_code.specs.Examples.{ExamplesRun, ExamplesWeigh};
+
+/// What was told in two lists, without its times.
+pub fn tells_append()
+    ensures { TellsAppend }
+{}
+
+/// The output of two lists is that of the one and then of the other.
+pub fn output_appends()
+    ensures { OutputAppends }
+{}
+
+/// The trail of two lists is that of the one and then of the other.
+pub fn trail_appends()
+    ensures { TrailAppends }
+{}
+
+/// The blocks that live after two lists.
+pub fn live_appends()
+    ensures { LiveAppends }
+{}
+
+/// The blocks that lived at some time of two lists.
+pub fn ever_appends()
+    ensures { EverAppends }
+{}
+
+/// Two lists are safe one after the other exactly if each is, by the blocks of its time.
+pub fn safe_appends()
+    ensures { SafeAppends }
+{}
 
 /// Steps only add to what was told, from any point, and take time.
 pub fn steps_advance()
