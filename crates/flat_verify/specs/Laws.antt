@@ -1,0 +1,46 @@
+-- What holds of the discipline.
+use Rattle.std.specs.Prelude.{◌≡◌, ℕ, Bool, true, false, List, Option, Some, slice_get}
+use Rattle.size_table.specs.Blocks.{Block}
+use Rattle.flat_code.specs.Code.{FSteps, ◌+++◌, FFunction, FCode}
+use Rattle.flat_code.specs.Recognized.{Sequence, sequence_steps, is_apart}
+use Rattle.flat_verify.specs.Items.{Item, Items, all_steps, items_of}
+use Rattle.flat_verify.specs.Facts.{Fact}
+use Rattle.flat_verify.specs.Closed.{Known, ClosedOn, Exact}
+use Rattle.flat_verify.specs.Discipline.{setting, edges, LostAt, BreaksBy, Place, FirstBad, FirstBreak}
+
+-- ---- Items
+
+-- the items of steps are these steps
+abbrev pub ItemsAreSteps : Type 0
+ItemsAreSteps = (g : ℕ) (steps : FSteps) → all_steps g (items_of g steps) ≡ steps
+
+-- a sequence whose values are apart is found where it stands
+abbrev pub SequencesAreFound : Type 0
+SequencesAreFound = (g : ℕ) (q : Sequence) (rest : FSteps) → is_apart q ≡ true → items_of g (sequence_steps g q +++ rest) ≡ Items.next (Item.Checks q) (items_of g rest)
+
+-- ---- Chains and tables
+
+-- a closed table of a program knows no fact that is lost
+abbrev pub ClosedTablesKnow : Type 0
+ClosedTablesKnow =
+    (g : ℕ) (globals : List Block) (functions : List FFunction) (A : ℕ → Fact → Bool) (gives : ℕ → Bool) (T : ℕ → ℕ → Known)
+    → ClosedOn (setting g globals functions) (edges g globals functions) A gives T
+    → (f p : ℕ) (x : Fact) → A f x ≡ true → LostAt g globals functions f p x → T f p x ≡ false
+
+-- ---- The first break
+
+-- there is at most one
+abbrev pub FirstIsOne : Type 0
+FirstIsOne = (g : ℕ) (globals : List Block) (code : FCode) (a b : Option Place) → FirstBreak g globals code a → FirstBreak g globals code b → a ≡ b
+
+-- the places that break the discipline by a table
+module _ (g : ℕ) (globals : List Block) (code : FCode) (T : ℕ → ℕ → Known) where
+  abbrev pub BreaksByTable : (function place : ℕ) → Type 0
+  BreaksByTable f q = BreaksBy g (setting g globals code.functions f) (λ p x. T f p x ≡ false) code.main f (slice_get code.functions f) q
+
+-- by an exact table the first place that breaks the discipline is the first by chains
+abbrev pub ExactTablesTell : Type 0
+ExactTablesTell =
+    (g : ℕ) (globals : List Block) (code : FCode) (A : ℕ → Fact → Bool) (gives : ℕ → Bool) (T : ℕ → ℕ → Known)
+    → Exact (setting g globals code.functions) (edges g globals code.functions) A gives T → (answer : Option Place)
+    → FirstBad (BreaksByTable g globals code T) answer → FirstBreak g globals code answer
