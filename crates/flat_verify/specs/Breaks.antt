@@ -38,8 +38,12 @@ fits s levels (FStep.LineMark line) = nat_le line 0xF_FFFF
 fits s levels (FStep.Report kind line) = nat_lt line s.values
 fits s levels (FStep.Env to call a b) = nat_lt to s.values && (nat_lt a s.values && (nat_lt b s.values && (nat_lt 0 call && nat_lt call 6)))
 
--- Slot, Look and Checked stand in sequences alone.
+-- Slot, Look and Checked stand in sequences alone, and a construct is an item of its own.
 abbrev pub is_plain : FStep → Bool
+is_plain (FStep.If cond first second) = false
+is_plain (FStep.Block body) = false
+is_plain (FStep.Loop body) = false
+is_plain (FStep.Inner body) = false
 is_plain (FStep.Slot to from) = false
 is_plain (FStep.Look to slot) = false
 is_plain (FStep.Checked from to) = false

@@ -13,9 +13,21 @@ abbrev pub params_in : Option FFunction → Option ℕ
 params_in None = None
 params_in (Some f) = Some f.params
 
+abbrev pub values_in : Option FFunction → ℕ
+values_in None = 0
+values_in (Some f) = f.values
+
+abbrev pub frame_in : Option FFunction → ℕ
+frame_in None = 0
+frame_in (Some f) = f.frame
+
+abbrev pub line_in : Option FFunction → ℕ
+line_in None = 0
+line_in (Some f) = f.line
+
 abbrev pub setting_in : (globals : List Block) → (functions : List FFunction) → Option FFunction → Setting
-setting_in globals functions None = record { globals = globals; values = 0; frame = 0; line = 0; params_of = λ k. params_in (slice_get functions k) }
-setting_in globals functions (Some f) = record { globals = globals; values = f.values; frame = f.frame; line = f.line; params_of = λ k. params_in (slice_get functions k) }
+setting_in globals functions f =
+    record { globals = globals; values = values_in f; frame = frame_in f; line = line_in f; params_of = λ k. params_in (slice_get functions k) }
 
 abbrev pub edges_in : (g : ℕ) → Option FFunction → Edges
 edges_in g None h i a b = ⊥

@@ -5,3 +5,5 @@ pub mod Breaks
 pub mod Discipline
 pub mod Closed
 pub mod Laws
+pub mod Comes
+pub mod Safe
