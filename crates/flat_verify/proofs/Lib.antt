@@ -5,3 +5,5 @@ pub mod Blocks
 pub mod Worlds
 pub mod Points
 pub mod Acts
+pub mod Lands
+pub mod Plain

@@ -108,7 +108,7 @@ module _ (g : ℕ) (globals : List Block) (functions : List FFunction) (f : ℕ)
   abbrev pub Says : (u : FPoint) (ev : List Block) → Source → (word : ℕ) → Type 0
   Says u ev Source.Held x = Good g ev x
   Says u ev Source.Gone x = Unit {0}
-  Says u ev (Source.From (Fact.Clean v)) x = (x ≡ u.words v) × (nat_lt v V ≡ true)
+  Says u ev (Source.From (Fact.Clean v)) x = (nat_lt v V ≡ true) × (Good g ev (u.words v) → Good g ev x)
   Says u ev (Source.From (Fact.Own v)) x = ⊥
   Says u ev (Source.From (Fact.Spanned a n)) x = (fact_in s (Fact.Spanned a n) ≡ true) × (SpannedBy g u.world.live (u.words a) (u.words n) → Good g ev x)
   Says u ev (Source.FromCall k) x = (ResultLost g globals functions k → ⊥) → Good g ev x
@@ -134,7 +134,7 @@ module _ (g : ℕ) (globals : List Block) (functions : List FFunction) (f : ℕ)
       good_by : (x : ℕ) → nat_lt x V ≡ true → (LostAt g globals functions f q (Fact.Clean x) → ⊥) → (o : Source) → source s h i (Fact.Clean x) ≡ o → Says u (ever g globals v.world) o (v.words x) → Good g (ever g globals v.world) (v.words x)
       good_by x in_ nt Source.Held is y = y
       good_by x in_ nt Source.Gone is y = absurd (nt (Lost.begins f h i p q (Fact.Clean x) in_ edge is))
-      good_by x in_ nt (Source.From (Fact.Clean k)) is y = subst (Good g (ever g globals v.world)) (sym y.0) (good_more g (ever g globals u.world) (ever g globals v.world) (u.words k) grows (at.good k y.1 (λ l. nt (Lost.goes_on f h i p q (Fact.Clean x) (Fact.Clean k) in_ edge is l))))
+      good_by x in_ nt (Source.From (Fact.Clean k)) is y = y.1 (good_more g (ever g globals u.world) (ever g globals v.world) (u.words k) grows (at.good k y.0 (λ l. nt (Lost.goes_on f h i p q (Fact.Clean x) (Fact.Clean k) in_ edge is l))))
       good_by x in_ nt (Source.From (Fact.Own k)) is y = absurd y
       good_by x in_ nt (Source.From (Fact.Spanned a n)) is y = y.1 (at.spans a n y.0 (λ l. nt (Lost.goes_on f h i p q (Fact.Clean x) (Fact.Spanned a n) in_ edge is l)))
       good_by x in_ nt (Source.FromCall k) is y = y (λ l. nt (Lost.given f k h i p q (Fact.Clean x) in_ edge is l))
@@ -150,7 +150,7 @@ module _ (g : ℕ) (globals : List Block) (functions : List FFunction) (f : ℕ)
   -- a construct changes nothing by itself
   pub flow : (h : Here) (i : Item) (p q : ℕ) (u : FPoint) → edges g globals functions f h i p (Some q) → ((x : Fact) → source s h i x ≡ Source.From x) → OkAt p u → OkAt q u
   flow h i p q u edge is at = after h i p q u u edge at at.kept (λ t x. x)
-    (λ x in_. subst (λ o. Says u (ever g globals u.world) o (u.words x)) (sym (is (Fact.Clean x))) (refl, in_))
+    (λ x in_. subst (λ o. Says u (ever g globals u.world) o (u.words x)) (sym (is (Fact.Clean x))) (in_, λ y. y))
     (λ x n in_. subst (λ o. SaysSpan u u o x n) (sym (is (Fact.Spanned x n))) (in_, λ y. y))
 
   -- ---- One value is set
@@ -158,7 +158,7 @@ module _ (g : ℕ) (globals : List Block) (functions : List FFunction) (f : ℕ)
   pub says_if : (u : FPoint) (ev : List Block) (o : Source) (to x : ℕ) → Says u ev o x → (v : ℕ) → nat_lt v V ≡ true → Says u ev (if v == to then o else Source.From (Fact.Clean v)) (with_word u.words to x v)
   says_if u ev o to x says v in_ = ⊎_elim
     (λ h. subst (λ t. Says u ev (cond t o (Source.From (Fact.Clean v))) (with_word u.words to x v)) (sym h.0) (subst (Says u ev o) (sym (set_same u.words to v x h.1)) says))
-    (λ h. subst (λ t. Says u ev (cond t o (Source.From (Fact.Clean v))) (with_word u.words to x v)) (sym h.0) (set_other u.words to v x h.1, in_))
+    (λ h. subst (λ t. Says u ev (cond t o (Source.From (Fact.Clean v))) (with_word u.words to x v)) (sym h.0) (in_, λ y. subst (Good g ev) (sym (set_other u.words to v x h.1)) y))
     (eqb_tells v to)
 
   pub says_span_if : (u v : FPoint) (to word : ℕ) → v.words ≡ with_word u.words to word → v.world.live ≡ u.world.live → (x n : ℕ) → fact_in s (Fact.Spanned x n) ≡ true → SaysSpan u v (gone_if ((x == to) || (n == to)) (Source.From (Fact.Spanned x n))) x n
