@@ -7,3 +7,4 @@ pub mod Points
 pub mod Acts
 pub mod Lands
 pub mod Plain
+pub mod Checks

@@ -66,7 +66,7 @@ module _ (g : ℕ) (globals : List Block) (functions : List FFunction) (laws : L
     abbrev evr : FWorld → List Block
     evr w = ever g globals w
 
-    slot : 1 ≤ g
+    pub slot : 1 ≤ g
     slot = (let z = known.low in omega (arith, z))
 
     -- what is shown of a plain step
@@ -112,8 +112,8 @@ module _ (g : ℕ) (globals : List Block) (functions : List FFunction) (laws : L
     address_good p v t at in_ fine = at.good v in_ fine
 
     -- an access in the world v, which has the blocks and the telling of t
-    touched : (t : FPoint) (v : FWorld) (a : ℕ) (w : Width) (write : Bool) → Holds g globals t.world → v.told ≡ t.world.told → v.live ≡ t.world.live → v.stack ≡ t.world.stack → v.time ≡ t.world.time → Good g (evr t.world) a → refusal a (size_of_width w) ≡ None → Next g globals laws t.world (tell (Tell.Access a (size_of_width w) write) v)
-    touched t v a w write holds told live stack time good none =
+    pub touched : (t : FPoint) (v : FWorld) (a : ℕ) (w : Width) (write : Bool) → Holds g globals t.world → v.told ≡ t.world.told → v.live ≡ t.world.live → v.stack ≡ t.world.stack → Good g (evr t.world) a → refusal a (size_of_width w) ≡ None → Next g globals laws t.world (tell (Tell.Access a (size_of_width w) write) v)
+    touched t v a w write holds told live stack good none =
         let size = size_of_width w in
         let r = (accessed g (evr t.world) a size holds.placed_ever good).at none in
         let k = width_divides g known.low w in
@@ -134,7 +134,7 @@ module _ (g : ℕ) (globals : List Block) (functions : List FFunction) (laws : L
         by (Some e) is = at.kept.holds
         by None is =
             let x = read w t.world.memory (t.words v) in
-            let next = touched t t.world (t.words v) w false at.kept.holds refl refl refl refl (at.good v in_ fine) is in
+            let next = touched t t.world (t.words v) w false at.kept.holds refl refl refl (at.good v in_ fine) is in
             let u : FPoint = point t.words (tell (Tell.Access (t.words v) (size_of_width w) false) t.world) in
             let q : FPoint = put to x u in
             (ok_after g globals functions f base w0 h (Item.Plain (FStep.Load to v w)) p after t q edge at (later g globals functions f base w0 t.world q.world at.kept next.holds next.grows refl) next.grows
@@ -152,7 +152,7 @@ module _ (g : ℕ) (globals : List Block) (functions : List FFunction) (laws : L
         by (Some e) is = at.kept.holds
         by None is =
             let u : FWorld = record t.world { memory = with_bytes t.world.memory (t.words v) (bytes_of (size_of_width w) (t.words from)) } in
-            let next = touched t u (t.words v) w true at.kept.holds refl refl refl refl (at.good v in_ fine) is in
+            let next = touched t u (t.words v) w true at.kept.holds refl refl refl (at.good v in_ fine) is in
             (keeps_all h (Item.Plain (FStep.Store v from w)) p after t (point t.words (tell (Tell.Access (t.words v) (size_of_width w) true) u)) edge at (is_from) refl refl refl next,
              here_kept h t.words k)
           where
