@@ -589,3 +589,135 @@ module _ (g : ℕ) (globals : List Block) (functions : List FFunction) (laws : L
               (λ z. (tt, (spend_next 4 x.world next.holds).holds))
               (λ some. in_time x refl next refl refl (below some) (at + 1 + 1 + 2)) in
         ((tt, tt, (tt, tt, (tt, claims_by_zero (v2 d) (In (report Bounds line) (at + 1 + 1 + 1 + 0)) (In FSteps.none (at + 1 + 1 + 1)) x (λ z. (tt, tt, tt)) (λ z. tt), r.0))), r.1)
+
+  -- ---- After a sequence
+
+  abbrev L : ℕ → Fact → Type 0
+  L p x = LostAt g globals functions f p x
+
+  record SequenceFared (x : Sequence) (u t : FPoint) : Type 0 where
+    next : Nx u.world t.world
+    live : t.world.live ≡ u.world.live
+    stack : t.world.stack ≡ u.world.stack
+    kept : (v : ℕ) → may_set x v ≡ false → t.words v ≡ u.words v
+    given : (v : ℕ) → gives x v ≡ true → Good g (evr t.world) (t.words v)
+    else_ : (v : ℕ) → gives x v ≡ false → is_among v (temporaries x) ≡ false → Good g (evr t.world) (u.words v) → Good g (evr t.world) (t.words v)
+    spanned : (a n : ℕ) → spans x a n ≡ true → SpannedBy g t.world.live (t.words a) (t.words n)
+
+  sequence_after : (x : Sequence) (h : Here) (p after : ℕ) (u t : FPoint) → edges g globals functions f h (Item.Checks x) p (Some after) → Ok p u → SequenceFared x u t → Ok after t
+  sequence_after x h p after u t edge at fared =
+      ok_after g globals functions f base w0 h (Item.Checks x) p after u t edge at (later g globals functions f base w0 u.world t.world at.kept fared.next.holds fared.next.grows fared.stack) fared.next.grows clean span
+    where
+      clean : (v : ℕ) → nat_lt v S.values ≡ true → Says g globals functions f base w0 u (evr t.world) (held_if (gives x v) (gone_if (is_among v (temporaries x)) (Source.From (Fact.Clean v)))) (t.words v)
+      clean v in_ = by (gives x v) refl
+        where
+          by2 : gives x v ≡ false → (b : Bool) → is_among v (temporaries x) ≡ b → Says g globals functions f base w0 u (evr t.world) (gone_if b (Source.From (Fact.Clean v))) (t.words v)
+          by2 no_ true e = tt
+          by2 no_ false e = (in_, λ y. fared.else_ v no_ e y)
+
+          by : (b : Bool) → gives x v ≡ b → Says g globals functions f base w0 u (evr t.world) (held_if b (gone_if (is_among v (temporaries x)) (Source.From (Fact.Clean v)))) (t.words v)
+          by true e = fared.given v e
+          by false e = by2 e (is_among v (temporaries x)) refl
+
+      span : (a n : ℕ) → fact_in S (Fact.Spanned a n) ≡ true → SaysSpan g globals functions f base w0 u t (held_if (spans x a n) (gone_if (may_set x a || may_set x n) (Source.From (Fact.Spanned a n)))) a n
+      span a n in_ = by (spans x a n) refl
+        where
+          by3 : may_set x a ≡ false → (b : Bool) → may_set x n ≡ b → SaysSpan g globals functions f base w0 u t (gone_if b (Source.From (Fact.Spanned a n))) a n
+          by3 ka true e = tt
+          by3 ka false e = (in_, λ y. subst (λ l. SpannedBy g l (t.words a) (t.words n)) (sym fared.live) (subst (λ z. SpannedBy g u.world.live z (t.words n)) (sym (fared.kept a ka)) (subst (λ z. SpannedBy g u.world.live (u.words a) z) (sym (fared.kept n e)) y)))
+
+          by2 : (b : Bool) → may_set x a ≡ b → SaysSpan g globals functions f base w0 u t (gone_if (b || may_set x n) (Source.From (Fact.Spanned a n))) a n
+          by2 true e = tt
+          by2 false e = by3 e (may_set x n) refl
+
+          by : (b : Bool) → spans x a n ≡ b → SaysSpan g globals functions f base w0 u t (held_if b (gone_if (may_set x a || may_set x n) (Source.From (Fact.Spanned a n)))) a n
+          by true e = fared.spanned a n e
+          by false e = by2 (may_set x a) refl
+
+  -- none of two, and none of three
+  or_false : (a b : Bool) → (a || b) ≡ false → (a ≡ false) × (b ≡ false)
+  or_false true b h = absurd (true≢false h)
+  or_false false b h = (refl, h)
+
+  three_kept : (v q s e : ℕ) → ((v == q) || is_among v (s ∷ e ∷ [])) ≡ false → (v ≢ q) × (v ≢ s) × (v ≢ e)
+  three_kept v q s e h =
+      let a = or_false (v == q) (is_among v (s ∷ e ∷ [])) h in
+      let b = or_false (v == s) (is_among v (e ∷ [])) a.1 in
+      let c = or_false (v == e) (is_among v []) b.1 in
+      (unequal v q a.0, unequal v s b.0, unequal v e c.0)
+
+  -- the sequences of three values
+  three_fared : (x : Sequence) (q s e : ℕ) (u t : FPoint) → ((v : ℕ) → may_set x v ≡ ((v == q) || is_among v (s ∷ e ∷ []))) → ((v : ℕ) → gives x v ≡ (v == q)) → ((v : ℕ) → is_among v (temporaries x) ≡ is_among v (s ∷ e ∷ [])) → ((a n : ℕ) → spans x a n ≡ false) → MoveWent q s e u t → SequenceFared x u t
+  three_fared x q s e u t sets given_is temps none_ went = record {
+      next = went.next; live = went.live; stack = went.stack;
+      kept = λ v h. let k = three_kept v q s e (sym (sets v) ∙ h) in went.kept v k.0 k.1 k.2;
+      given = λ v h. subst (λ z. Good g (evr t.world) (t.words z)) (sym (equal v q (sym (given_is v) ∙ h))) went.good;
+      else_ = λ v h k y.
+        let a = unequal v q (sym (given_is v) ∙ h) in
+        let b = or_false (v == s) (is_among v (e ∷ [])) (sym (temps v) ∙ k) in
+        let c = or_false (v == e) (is_among v []) b.1 in
+        subst (Good g (evr t.world)) (sym (went.kept v a (unequal v s b.0) (unequal v e c.0))) y;
+      spanned = λ a n h. absurd (true≢false (sym h ∙ none_ a n));
+    }
+
+  abbrev pub CheckFares : Sequence → Here → (p after : ℕ) → List ℕ → FPoint → Type 0
+  CheckFares x h p after exits u = In (sequence_steps g x) p u × Lands g globals functions f base w0 after exits (λ v. HereHolds g globals functions f base w0 untold v.words) (go (sequence_steps g x) u)
+
+  three_landed : (x : Sequence) (h : Here) (p after : ℕ) (exits : List ℕ) (u : FPoint) (q s e : ℕ) → edges g globals functions f h (Item.Checks x) p (Some after) → Ok p u
+    → ((t : FPoint) → MoveWent q s e u t → SequenceFared x u t) → (r : Run Way) → MoveLands q s e u r → Lands g globals functions f base w0 after exits (λ v. HereHolds g globals functions f base w0 untold v.words) r
+  three_landed x h p after exits u q s e edge at to (Answer.Goes Way.On t) l = (sequence_after x h p after u t edge at (to t l), untold_holds g globals functions f base w0 t.words)
+  three_landed x h p after exits u q s e edge at to (Answer.Goes (Way.Out n) t) l = absurd l
+  three_landed x h p after exits u q s e edge at to (Answer.Goes (Way.Back n) t) l = absurd l
+  three_landed x h p after exits u q s e edge at to (Answer.Ends ending t) l = l
+
+  span_fared : (p n q line d s e : ℕ) → SpanApart p n q line d s e → (u t : FPoint) → SpanFared p n q d s e u t → SequenceFared (Sequence.Span p n q line d s e) u t
+  span_fared p n q line d s e apart u t went = record {
+      next = went.next; live = went.live; stack = went.stack;
+      kept = λ v h.
+        let a = or_false (v == q) (is_among v (d ∷ s ∷ e ∷ [])) h in
+        let b = or_false (v == d) (is_among v (s ∷ e ∷ [])) a.1 in
+        let c = or_false (v == s) (is_among v (e ∷ [])) b.1 in
+        let k = or_false (v == e) (is_among v []) c.1 in
+        went.kept v (unequal v q a.0) (unequal v d b.0) (unequal v s c.0) (unequal v e k.0);
+      given = λ v h. absurd (true≢false (sym h));
+      else_ = λ v h k y.
+        let b = or_false (v == d) (is_among v (s ∷ e ∷ [])) k in
+        let c = or_false (v == s) (is_among v (e ∷ [])) b.1 in
+        let j = or_false (v == e) (is_among v []) c.1 in
+        ⊎_elim
+          (λ i. subst (λ z. Good g (evr t.world) (t.words z)) (sym i.1) (went.result (subst (λ z. Good g (evr t.world) (u.words z)) i.1 y)))
+          (λ i. subst (Good g (evr t.world)) (sym (went.kept v i.1 (unequal v d b.0) (unequal v s c.0) (unequal v e j.0))) y)
+          (eqb_tells v q);
+      spanned = λ a m h.
+        let k = both (a == p) (m == n) h in
+        let ap_ = equal a p k.0 in
+        let mn = equal m n k.1 in
+        let keep_p : t.words p ≡ u.words p = went.kept p (λ z. apart.move.qp (sym z)) (λ z. apart.dp (sym z)) (λ z. apart.move.sp (sym z)) (λ z. apart.move.ep (sym z)) in
+        let keep_n : t.words n ≡ u.words n = went.kept n apart.nq apart.np apart.ns apart.ne in
+        subst (λ z. SpannedBy g t.world.live (t.words z) (t.words m)) (sym ap_) (subst (λ z. SpannedBy g t.world.live (t.words p) (t.words z)) (sym mn)
+          (subst (λ z. SpannedBy g t.world.live z (t.words n)) (sym keep_p) (subst (λ z. SpannedBy g t.world.live (u.words p) z) (sym keep_n) went.spanned)));
+    }
+
+  span_landed : (p n q line d s e : ℕ) → SpanApart p n q line d s e → (h : Here) (at after : ℕ) (exits : List ℕ) (u : FPoint) → edges g globals functions f h (Item.Checks (Sequence.Span p n q line d s e)) at (Some after) → Ok at u → (r : Run Way) → SpanLands p n q d s e u r → Lands g globals functions f base w0 after exits (λ v. HereHolds g globals functions f base w0 untold v.words) r
+  span_landed p n q line d s e apart h at after exits u edge ok (Answer.Goes Way.On t) l = (sequence_after (Sequence.Span p n q line d s e) h at after u t edge ok (span_fared p n q line d s e apart u t l), untold_holds g globals functions f base w0 t.words)
+  span_landed p n q line d s e apart h at after exits u edge ok (Answer.Goes (Way.Out k) t) l = absurd l
+  span_landed p n q line d s e apart h at after exits u edge ok (Answer.Goes (Way.Back k) t) l = absurd l
+  span_landed p n q line d s e apart h at after exits u edge ok (Answer.Ends ending t) l = l
+
+  pub check_fares : (x : Sequence) (h : Here) (p after : ℕ) (exits : List ℕ) (u : FPoint) → edges g globals functions f h (Item.Checks x) p (Some after) → is_apart x ≡ true → nat_lt (Rattle.flat_verify.specs.Breaks.pointer x) S.values ≡ true → (L p (Fact.Clean (Rattle.flat_verify.specs.Breaks.pointer x)) → ⊥) → Ok p u → CheckFares x h p after exits u
+  check_fares (Sequence.Move p d q line s e) h at after exits u edge apart in_ fine ok =
+      let good = ok.good p in_ fine in
+      let x = Sequence.Move p d q line s e in
+      (move_in p d q line s e at u ok.kept.holds good,
+       three_landed x h at after exits u q s e edge ok (λ t w. three_fared x q s e u t (λ v. refl) (λ v. refl) (λ v. refl) (λ a n. refl) w) (go (sequence_steps g x) u) (move_lands p d q line s e (move_apart p d q line s e apart) u ok.kept.holds good))
+  check_fares (Sequence.Load w a line s e) h at after exits u edge apart in_ fine ok =
+      let good = ok.good a in_ fine in
+      let x = Sequence.Load w a line s e in
+      let la = load_apart w a line s e apart in
+      (load_in w a line s e at la.es u ok.kept.holds good,
+       three_landed x h at after exits u w s e edge ok (λ t k. three_fared x w s e u t (λ v. refl) (λ v. refl) (λ v. refl) (λ b n. refl) k) (go (sequence_steps g x) u) (load_lands w a line s e la u ok.kept.holds good))
+  check_fares (Sequence.Span p n q line d s e) h at after exits u edge apart in_ fine ok =
+      let good = ok.good p in_ fine in
+      let sa = span_apart p n q line d s e apart in
+      let r = span_fares p n q line d s e at sa u ok.kept.holds good in
+      (r.0, span_landed p n q line d s e sa h at after exits u edge ok (go (sequence_steps g (Sequence.Span p n q line d s e)) u) r.1)
