@@ -8,3 +8,4 @@ pub mod Acts
 pub mod Lands
 pub mod Plain
 pub mod Checks
+pub mod Runs
