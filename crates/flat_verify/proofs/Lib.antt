@@ -9,3 +9,4 @@ pub mod Lands
 pub mod Plain
 pub mod Checks
 pub mod Runs
+pub mod Safe

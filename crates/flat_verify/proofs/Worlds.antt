@@ -15,7 +15,7 @@ use Rattle.flat_code.specs.Told.{Tell, Stamped, tells}
 use Rattle.flat_code.specs.World.{FWorld, FPoint, point, tell}
 use Rattle.flat_code.specs.Accounts.{make, end, make_all, end_all, frame_size, alignment, stack_under}
 use Rattle.flat_code.specs.Safety.{live_after, ever_after, live_of, ever_of, IsSafe, AllSafe}
-use Rattle.flat_code.specs.Laws.{TellsAppend, LiveAppends, EverAppends, SafeAppends, MoveSequenceMoves, LoadSequenceLoads, LoadSequenceStops, SpanSequenceSpans}
+use Rattle.flat_code.specs.Laws.{TellsAppend, LiveAppends, EverAppends, SafeAppends, MoveSequenceMoves, LoadSequenceLoads, LoadSequenceStops}
 use Rattle.flat_verify.specs.Facts.{lies_in, reach_past}
 use Rattle.flat_verify.specs.Safe.{Decline, AreGlobals}
 use Rattle.flat_verify.proofs.Blocks.{both, le_of, lt_of, is_le, is_lt, ArePlaced, is_held, Within, placed_append, held_left, held_right, held_append, holds_slot}
@@ -29,7 +29,6 @@ pub record Laws : Type 0 where
   pub moves : MoveSequenceMoves
   pub loads : LoadSequenceLoads
   pub stops : LoadSequenceStops
-  pub spans : SpanSequenceSpans
   pub offsets : MovesAreOffsets
   pub reach : MovesStayInReach
   pub owners : OwnerIsBlock

@@ -1,5 +1,6 @@
 //! What holds of the discipline, for what stands on it.
 ghost use Rattle.flat_verify.specs.Laws.{ItemsAreSteps, SequencesAreFound, ClosedTablesKnow, FirstIsOne, ExactTablesTell};
+ghost use Rattle.flat_verify.specs.Safe.{DisciplinedIsSafe};
 
 /// The items of steps are these steps.
 pub fn items_are_steps()
@@ -25,3 +26,22 @@ pub fn first_is_one()
 pub fn exact_tables_tell()
     ensures { ExactTablesTell }
 {}
+
+/// Disciplined code is safe in every run, with freed and forged pointers too: its moves and accesses are, and it does
+/// nothing that has no meaning.
+pub fn disciplined_is_safe()
+    ensures { DisciplinedIsSafe }
+{
+    flat_code::laws::tells_append();
+    flat_code::laws::live_appends();
+    flat_code::laws::ever_appends();
+    flat_code::laws::safe_appends();
+    flat_code::laws::move_sequence_moves();
+    flat_code::laws::load_sequence_loads();
+    flat_code::laws::load_sequence_stops();
+    marked_ptr::laws::moves_are_offsets();
+    marked_ptr::laws::moves_stay_in_reach();
+    marked_ptr::laws::owner_is_block();
+    size_table::laws::exponent_is_least();
+    buddy_heap::laws::place_is_least();
+}
