@@ -8,5 +8,6 @@ pub mod Acts
 pub mod Lands
 pub mod Plain
 pub mod Checks
+pub mod Begins
 pub mod Runs
 pub mod Safe

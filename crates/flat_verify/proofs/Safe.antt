@@ -22,7 +22,7 @@ use Rattle.flat_verify.specs.Chains.{EdgeAll, body_edges, Lost}
 use Rattle.flat_verify.specs.Breaks.{BreaksAll}
 use Rattle.flat_verify.specs.Discipline.{values_in, frame_in, setting, edges_in, edges, LostAt, ResultLost, most_values, most_params, library_fits, main_fits, function_fits, BreaksBy, BreaksAt, IsDisciplined}
 use Rattle.flat_verify.specs.Comes.{InSteps, nothing, InLibrary, InFrame, InDefined, InOne, InNone, InCalls, InRun}
-use Rattle.flat_verify.specs.Safe.{Decline, AreGlobals, IsFrame, AreFrames, in_range, IsSafeRun, DisciplinedIsSafe}
+use Rattle.flat_verify.specs.Safe.{Decline, AreGlobals, IsFrame, AreFrames, BeginsIn, is_safe_step, IsSafeRun, DisciplinedIsSafe}
 use Rattle.flat_verify.proofs.Blocks.{both, le_of, lt_of, ge_of, is_lt, ArePlaced, is_held, Within, held_left, Good}
 use Rattle.flat_verify.proofs.Worlds.{Laws, decline_placed, frame_held, globals_placed, ever, Holds, same_holds, Next, same_next, then_next, made_all_next, made_all_held, made_all_stack, ended_all_next}
 use Rattle.flat_verify.proofs.Points.{Base, OkAt, untold_holds}
@@ -141,14 +141,17 @@ module _ (g : ℕ) (globals : List Block) (code : FCode) (laws : Laws) (frames :
       edges_are : (h' : Here) (t : Item) (a : ℕ) (b : Option ℕ) → EdgeAll g untold items 0 (all_places g items) [] h' t a b → edges g globals fs number h' t a b
       edges_are h' t a b e = subst (λ o. edges_in g o h' t a b) (sym is) e
 
+      only : Rattle.flat_verify.proofs.Begins.OnlyAll g (BeginsIn g (slice_get fs number)) items 0
+      only q low_ high_ w = subst (λ o. BeginsIn g o q) is w
+
       fine : (q : ℕ) → BreaksAll g (setting g globals fs number) (LostAt g globals fs number) 0 items 0 q → ⊥
       fine q b = disciplined number q (subst (λ o. BreaksBy g (setting g globals fs number) (LostAt g globals fs number) code.main number o q) (sym is) (inr b))
 
       abbrev In : FSteps → Type 0
-      In xs = InSteps g call m bytes inside (in_range g fs number) xs 0 begun
+      In xs = InSteps g call m bytes inside (is_safe_step g globals fs number) xs 0 begun
 
       fared : In (all_steps g items) × Lands g globals fs number w.stack w (all_places g items) [] (Any g globals fs number w.stack w) (act_all g call m bytes (all_steps g items) begun)
-      fared = items_fare g globals fs laws known number w.stack w (ever_has g (tells w.told) globals) call m bytes inside safe frame_is items untold 0 (all_places g items) [] begun edges_are (steps_apart g 0 fn.body) fine
+      fared = items_fare g globals fs laws known number w.stack w (ever_has g (tells w.told) globals) call m bytes inside safe frame_is (BeginsIn g (slice_get fs number)) items untold 0 (all_places g items) [] begun edges_are (steps_apart g 0 fn.body) only fine
           (subst (λ p. OkAt g globals fs number w.stack w p begun) (sym (first_is items)) at_begin) (untold_holds g globals fs number w.stack w (arguments args))
 
       returned_lands : (r : Run Way) → Lands g globals fs number w.stack w (all_places g items) [] (Any g globals fs number w.stack w) r → BodyLands number u w (and_then (and_then r returned) (λ word t. Answer.Goes word (point u.words t.world)))
@@ -174,11 +177,11 @@ module _ (g : ℕ) (globals : List Block) (code : FCode) (laws : Laws) (frames :
   Goods number args w = (k a : ℕ) → slice_get args k ≡ Some a → (LostAt g globals fs number 0 (Fact.Clean k) → ⊥) → Good g (evr w) a
 
   claims : (function : ℕ) → Rattle.flat_verify.specs.Comes.Claim
-  claims = in_range g fs
+  claims = is_safe_step g globals fs
 
   -- a body of the library
   library_safe : (number : ℕ) (fn : FFunction) (args : List ℕ) (u : FPoint) → slice_get fs number ≡ Some fn → fn.line ≡ 0 → Holds g globals u.world → Goods number args u.world
-    → InLibrary g frames m (in_range g fs) number fn args u × CallLands g globals fs laws number u (library g frames m fn args u)
+    → InLibrary g frames m (is_safe_step g globals fs) number fn args u × CallLands g globals fs laws number u (library g frames m fn args u)
   library_safe number fn args u is line h good =
       let w = spend (call_charge fn) u.world in
       let empty : fn.frame ≡ 0 = (fits_of number fn is).library_frame line in
@@ -236,11 +239,11 @@ module _ (g : ℕ) (globals : List Block) (code : FCode) (laws : Laws) (frames :
           }
       left (Answer.Ends e t) next l = l
 
-      framed_safe : InFrame g frames m (in_range g fs) deeper inside number fn args es v × CallLands g globals fs laws number u (framed g fn.line (act_all g deeper m fn.frame fn.body) args es v)
+      framed_safe : InFrame g frames m (is_safe_step g globals fs) deeper inside number fn args es v × CallLands g globals fs laws number u (framed g fn.line (act_all g deeper m fn.frame fn.body) args es v)
       framed_safe = by (nat_lt (stack_under g u.world.stack es) STACK_START) refl
         where
           by : (t : Bool) → nat_lt (stack_under g u.world.stack es) STACK_START ≡ t
-            → either t nothing (λ t. InSteps g deeper m fn.frame inside (in_range g fs number) fn.body 0 (point (arguments args) (enter (stack_under g t.world.stack es) es t.world))) v
+            → either t nothing (λ t. InSteps g deeper m fn.frame inside (is_safe_step g globals fs number) fn.body 0 (point (arguments args) (enter (stack_under g t.world.stack es) es t.world))) v
             × CallLands g globals fs laws number u (choose t (λ z. Answer.Ends (Ending.Reported report.Stack fn.line) z)
                 (λ t. and_then (body_with (act_all g deeper m fn.frame fn.body) args (point t.words (enter (stack_under g t.world.stack es) es t.world))) (λ word s. Answer.Goes word (point s.words (leave es t.world s.world)))) v)
           by true e = (tt, same_holds g globals u.world v.world refl refl h.stack h)
@@ -260,39 +263,39 @@ module _ (g : ℕ) (globals : List Block) (code : FCode) (laws : Laws) (frames :
               (r.0, left (body_with (act_all g deeper m fn.frame fn.body) args (point v.words entered)) next r.1)
 
     defined_safe : (number : ℕ) (fn : FFunction) (args : List ℕ) (u : FPoint) → slice_get fs number ≡ Some fn → fn.line ≢ 0 → Holds g globals u.world → Goods number args u.world
-      → InDefined g frames m (in_range g fs) deeper inside number fn args (slice_get frames number) u × CallLands g globals fs laws number u (defined g frames m deeper number fn args u)
+      → InDefined g frames m (is_safe_step g globals fs) deeper inside number fn args (slice_get frames number) u × CallLands g globals fs laws number u (defined g frames m deeper number fn args u)
     defined_safe number fn args u is line h good =
         let fr = frames_are number fn is line in
-        subst (λ o. InDefined g frames m (in_range g fs) deeper inside number fn args o u × CallLands g globals fs laws number u (framed_if g fn.line (act_all g deeper m fn.frame fn.body) args o (point u.words (spend (call_charge fn) u.world)))) (sym fr.is)
+        subst (λ o. InDefined g frames m (is_safe_step g globals fs) deeper inside number fn args o u × CallLands g globals fs laws number u (framed_if g fn.line (act_all g deeper m fn.frame fn.body) args o (point u.words (spend (call_charge fn) u.world)))) (sym fr.is)
           (framed_safe number fn args u is h good fr.exponents fr.decline fr.total)
 
   -- a call of a function, by whether it is a body of the library
   abbrev Split : (n number : ℕ) → FFunction → (args : List ℕ) → FPoint → Bool → Type 0
   Split n number fn args u t =
-      either t (InLibrary g frames m (in_range g fs) number fn args) (either (nat_le MOST_CALLS u.world.depth) nothing (InDefined g frames m (in_range g fs) (calls g frames m fs n) (InCalls g frames m (in_range g fs) fs n) number fn args (slice_get frames number))) u
+      either t (InLibrary g frames m (is_safe_step g globals fs) number fn args) (either (nat_le MOST_CALLS u.world.depth) nothing (InDefined g frames m (is_safe_step g globals fs) (calls g frames m fs n) (InCalls g frames m (is_safe_step g globals fs) fs n) number fn args (slice_get frames number))) u
       × CallLands g globals fs laws number u (choose t (library g frames m fn args) (counted fn.line (defined g frames m (calls g frames m fs n) number fn args)) u)
 
-  calls_safe : (n : ℕ) → CallsSafe g globals fs laws (calls g frames m fs n) (InCalls g frames m (in_range g fs) fs n)
+  calls_safe : (n : ℕ) → CallsSafe g globals fs laws (calls g frames m fs n) (InCalls g frames m (is_safe_step g globals fs) fs n)
   calls_safe zero number fn args u is count h good =
-      subst (λ o. InNone g frames m (in_range g fs) o number args u × CallLands g globals fs laws number u (call_none g frames m fs o number args u)) (sym is)
+      subst (λ o. InNone g frames m (is_safe_step g globals fs) o number args u × CallLands g globals fs laws number u (call_none g frames m fs o number args u)) (sym is)
         (⊎_elim
-          (λ e. subst (λ t. either t (InLibrary g frames m (in_range g fs) number fn args) nothing u × CallLands g globals fs laws number u (choose t (library g frames m fn args) (counted fn.line (λ z. Answer.Ends Ending.Cut z)) u)) (sym e.0) (library_safe number fn args u is e.1 h good))
-          (λ e. subst (λ t. either t (InLibrary g frames m (in_range g fs) number fn args) nothing u × CallLands g globals fs laws number u (choose t (library g frames m fn args) (counted fn.line (λ z. Answer.Ends Ending.Cut z)) u)) (sym e.0) (tt, deep (nat_le MOST_CALLS u.world.depth)))
+          (λ e. subst (λ t. either t (InLibrary g frames m (is_safe_step g globals fs) number fn args) nothing u × CallLands g globals fs laws number u (choose t (library g frames m fn args) (counted fn.line (λ z. Answer.Ends Ending.Cut z)) u)) (sym e.0) (library_safe number fn args u is e.1 h good))
+          (λ e. subst (λ t. either t (InLibrary g frames m (is_safe_step g globals fs) number fn args) nothing u × CallLands g globals fs laws number u (choose t (library g frames m fn args) (counted fn.line (λ z. Answer.Ends Ending.Cut z)) u)) (sym e.0) (tt, deep (nat_le MOST_CALLS u.world.depth)))
           (eqb_tells fn.line 0))
     where
       deep : (t : Bool) → CallLands g globals fs laws number u (choose t (λ z. Answer.Ends (Ending.Reported report.Depth fn.line) z) (λ z. Answer.Ends Ending.Cut z) u)
       deep true = h
       deep false = h
   calls_safe (suc n) number fn args u is count h good =
-      let d = λ (line : fn.line ≢ 0). defined_safe (calls g frames m fs n) (InCalls g frames m (in_range g fs) fs n) (calls_safe n) number fn args u is line h good in
-      subst (λ o. InOne g frames m (in_range g fs) (calls g frames m fs n) (InCalls g frames m (in_range g fs) fs n) o number args u × CallLands g globals fs laws number u (call_one g frames m fs (calls g frames m fs n) o number args u)) (sym is)
+      let d = λ (line : fn.line ≢ 0). defined_safe (calls g frames m fs n) (InCalls g frames m (is_safe_step g globals fs) fs n) (calls_safe n) number fn args u is line h good in
+      subst (λ o. InOne g frames m (is_safe_step g globals fs) (calls g frames m fs n) (InCalls g frames m (is_safe_step g globals fs) fs n) o number args u × CallLands g globals fs laws number u (call_one g frames m fs (calls g frames m fs n) o number args u)) (sym is)
         (⊎_elim
           (λ e. subst (λ t. Split n number fn args u t) (sym e.0) (library_safe number fn args u is e.1 h good))
           (λ e. subst (λ t. Split n number fn args u t) (sym e.0) (deep (nat_le MOST_CALLS u.world.depth) (d e.1)))
           (eqb_tells fn.line 0))
     where
-      deep : (t : Bool) → (InDefined g frames m (in_range g fs) (calls g frames m fs n) (InCalls g frames m (in_range g fs) fs n) number fn args (slice_get frames number) u × CallLands g globals fs laws number u (defined g frames m (calls g frames m fs n) number fn args u))
-        → either t nothing (InDefined g frames m (in_range g fs) (calls g frames m fs n) (InCalls g frames m (in_range g fs) fs n) number fn args (slice_get frames number)) u
+      deep : (t : Bool) → (InDefined g frames m (is_safe_step g globals fs) (calls g frames m fs n) (InCalls g frames m (is_safe_step g globals fs) fs n) number fn args (slice_get frames number) u × CallLands g globals fs laws number u (defined g frames m (calls g frames m fs n) number fn args u))
+        → either t nothing (InDefined g frames m (is_safe_step g globals fs) (calls g frames m fs n) (InCalls g frames m (is_safe_step g globals fs) fs n) number fn args (slice_get frames number)) u
         × CallLands g globals fs laws number u (choose t (λ z. Answer.Ends (Ending.Reported report.Depth fn.line) z) (defined g frames m (calls g frames m fs n) number fn args) u)
       deep true r = (tt, h)
       deep false r = r
@@ -315,7 +318,7 @@ module _ (g : ℕ) (globals : List Block) (code : FCode) (laws : Laws) (frames :
       let none_ : fn.0.params ≡ 0 = (fits_of code.main fn.0 fn.1).main refl in
       let r = calls_safe m code.main fn.0 [] (start code.initial globals input) fn.1 (sym none_) (start_holds input) (λ k a e nt. absurd (none_in k a e)) in
       let h = landed (calls g frames m fs m code.main [] (start code.initial globals input)) r.1 in
-      record { safe = h.safe; live = h.live; in_range = r.0 }
+      record { safe = h.safe; live = h.live; steps = r.0 }
     where
       none_in : (k a : ℕ) → slice_get {X = ℕ} [] k ≡ Some a → ⊥
       none_in k a e = let z : ⊥ = cc in z

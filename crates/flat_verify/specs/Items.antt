@@ -1,6 +1,6 @@
 -- Code as items: plain steps, sequences where they stand, and constructs of further items. Each step has a place in its
 -- function: its number in the order in which the steps stand, a construct before the steps inside it.
-use Rattle.std.specs.Prelude.{ℕ, zero, suc, ◌+◌, Option, Some, None}
+use Rattle.std.specs.Prelude.{◌≡◌, ◌⊎◌, ℕ, zero, suc, ◌+◌, Option, Some, None}
 use Rattle.flat_code.specs.Code.{FStep, FSteps, ◌+++◌}
 use Rattle.flat_code.specs.Recognized.{Sequence, sequence_steps, sequence_at, further}
 
@@ -89,3 +89,18 @@ abbrev mutual
 abbrev pub first_place : Items → (place after : ℕ) → ℕ
 first_place Items.end place after = after
 first_place (Items.next i rest) place after = place
+
+-- an item begins at place q, of those that stand from place p on: a step outside of sequences, or the first step of one
+module _ (g : ℕ) where
+  abbrev mutual
+    pub Begins : Item → (p q : ℕ) → Type 0
+    Begins (Item.Plain s) p q = q ≡ p
+    Begins (Item.Checks x) p q = q ≡ p
+    Begins (Item.If cond first second) p q = (q ≡ p) ⊎ (BeginsAll first (p + 1) q ⊎ BeginsAll second (p + 1 + all_places g first) q)
+    Begins (Item.Block body) p q = (q ≡ p) ⊎ BeginsAll body (p + 1) q
+    Begins (Item.Loop body) p q = (q ≡ p) ⊎ BeginsAll body (p + 1) q
+    Begins (Item.Inner body) p q = (q ≡ p) ⊎ BeginsAll body (p + 1) q
+
+    pub BeginsAll : Items → (p q : ℕ) → Type 0
+    BeginsAll Items.end p q = ⊥
+    BeginsAll (Items.next i rest) p q = Begins i p q ⊎ BeginsAll rest (p + places g i) q

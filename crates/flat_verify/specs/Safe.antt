@@ -12,7 +12,9 @@ use Rattle.flat_code.specs.Accounts.{frame_size}
 use Rattle.flat_code.specs.Safety.{live_of, ever_of, AllSafe}
 use Rattle.flat_code.specs.Run.{refusal, flat_run}
 use Rattle.flat_code.specs.Laws.{point_of}
-use Rattle.flat_verify.specs.Discipline.{frame_in, IsDisciplined}
+use Rattle.flat_verify.specs.Items.{items_of, BeginsAll}
+use Rattle.flat_verify.specs.Facts.{Fact}
+use Rattle.flat_verify.specs.Discipline.{values_in, frame_in, LostAt, IsDisciplined}
 use Rattle.flat_verify.specs.Comes.{Claim, InRun}
 
 -- ---- Layouts
@@ -52,17 +54,36 @@ IsInRange g frame functions (FStep.Load to at width) u = refusal (u.words at) (s
 IsInRange g frame functions (FStep.Store at from width) u = refusal (u.words at) (size_of_width width) ≢ Some Ending.Cut
 IsInRange g frame functions s u = Unit {0}
 
-abbrev pub in_range : (g : ℕ) → List FFunction → (function : ℕ) → Claim
-in_range g functions function place s u = IsInRange g (frame_in (slice_get functions function)) functions s u
+-- ---- Untainted values
+
+-- the word is null, or a block holds the slot that owns it, or has held it
+abbrev pub IsOwned : (g : ℕ) → (globals : List Block) → FWorld → (word : ℕ) → Type 0
+IsOwned g globals w word = (word ≡ 0) ⊎ IsSome (owner g word (ever_of globals (tells w.told)))
+
+abbrev pub BeginsIn : (g : ℕ) → Option FFunction → (place : ℕ) → Type 0
+BeginsIn g None place = ⊥
+BeginsIn g (Some f) place = BeginsAll g (items_of g f.body) 0 place
+
+-- Before a step, the untainted values of the function are owned. Of sequences this holds before the first step alone.
+abbrev pub AreOwned : (g : ℕ) → (globals : List Block) → List FFunction → (function place : ℕ) → FPoint → Type 0
+AreOwned g globals functions f place u =
+    BeginsIn g (slice_get functions f) place → (v : ℕ) → v < values_in (slice_get functions f)
+    → (LostAt g globals functions f place (Fact.Clean v) → ⊥) → IsOwned g globals u.world (u.words v)
+
+-- what is claimed of each step of a function
+abbrev pub is_safe_step : (g : ℕ) → (globals : List Block) → List FFunction → (function : ℕ) → Claim
+is_safe_step g globals functions f place s u =
+    IsInRange g (frame_in (slice_get functions f)) functions s u × AreOwned g globals functions f place u
 
 -- ---- Safe runs
 
 -- A run is safe: its moves and accesses are, each with the blocks that live when it comes and those that lived before; the
--- blocks that live are those that were made and have not ended; and each step that it comes to is in range.
+-- blocks that live are those that were made and have not ended; and each step that it comes to is in range, and finds
+-- untainted values owned.
 pub record IsSafeRun (g : ℕ) (code : FCode) (globals : List Block) (frames : List (List ℕ)) (input : List ℕ) (m : ℕ) (w : FWorld) : Type 0 where
   pub safe : AllSafe g globals globals (tells w.told)
   pub live : w.live ≡ live_of globals (tells w.told)
-  pub in_range : InRun g code globals frames input m (in_range g code.functions)
+  pub steps : InRun g code globals frames input m (is_safe_step g globals code.functions)
 
 -- Disciplined code is safe in every run, whatever it reads and whatever its memory holds: freed and forged pointers too.
 abbrev pub DisciplinedIsSafe : Type 0
