@@ -8,6 +8,8 @@ pub mod Acts
 pub mod Lands
 pub mod Plain
 pub mod Checks
+pub mod Tables
+pub mod Accepts
 pub mod Begins
 pub mod Runs
 pub mod Safe

@@ -6,7 +6,8 @@ use Rattle.flat_code.specs.Recognized.{Sequence, sequence_steps, is_apart}
 use Rattle.flat_verify.specs.Items.{Item, Items, all_steps, items_of}
 use Rattle.flat_verify.specs.Facts.{Fact}
 use Rattle.flat_verify.specs.Closed.{Known, ClosedOn, Exact}
-use Rattle.flat_verify.specs.Discipline.{setting, edges, LostAt, BreaksBy, Place, FirstBad, FirstBreak}
+use Rattle.flat_verify.specs.Discipline.{setting, edges, LostAt, BreaksBy, Place, FirstBad, FirstBreak, IsDisciplined}
+use Rattle.flat_verify.specs.Derivations.{Signs, GoodProgram}
 
 -- ---- Items
 
@@ -26,6 +27,12 @@ ClosedTablesKnow =
     (g : ℕ) (globals : List Block) (functions : List FFunction) (A : ℕ → Fact → Bool) (gives : ℕ → Bool) (T : ℕ → ℕ → Known)
     → ClosedOn (setting g globals functions) (edges g globals functions) A gives T
     → (f p : ℕ) (x : Fact) → A f x ≡ true → LostAt g globals functions f p x → T f p x ≡ false
+
+-- ---- Derivations
+
+-- a program with derivations keeps the discipline
+abbrev pub DerivationsAreAccepted : Type 0
+DerivationsAreAccepted = (g : ℕ) (globals : List Block) (sg : Signs) (code : FCode) → GoodProgram g globals sg code → IsDisciplined g globals code
 
 -- ---- The first break
 

@@ -4,6 +4,7 @@ pub mod Chains
 pub mod Breaks
 pub mod Discipline
 pub mod Closed
+pub mod Derivations
 pub mod Laws
 pub mod Comes
 pub mod Safe

@@ -1,5 +1,5 @@
 //! What holds of the discipline, for what stands on it.
-ghost use Rattle.flat_verify.specs.Laws.{ItemsAreSteps, SequencesAreFound, ClosedTablesKnow, FirstIsOne, ExactTablesTell};
+ghost use Rattle.flat_verify.specs.Laws.{ItemsAreSteps, SequencesAreFound, ClosedTablesKnow, DerivationsAreAccepted, FirstIsOne, ExactTablesTell};
 ghost use Rattle.flat_verify.specs.Safe.{DisciplinedIsSafe};
 
 /// The items of steps are these steps.
@@ -15,6 +15,11 @@ pub fn sequences_are_found()
 /// A closed table knows no fact that a chain shows to be lost.
 pub fn closed_tables_know()
     ensures { ClosedTablesKnow }
+{}
+
+/// A program with derivations keeps the discipline.
+pub fn derivations_are_accepted()
+    ensures { DerivationsAreAccepted }
 {}
 
 /// There is at most one first place that breaks the discipline.
