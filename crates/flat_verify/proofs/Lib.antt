@@ -10,6 +10,7 @@ pub mod Plain
 pub mod Checks
 pub mod Tables
 pub mod Accepts
+pub mod ReadBack
 pub mod Begins
 pub mod Runs
 pub mod Safe

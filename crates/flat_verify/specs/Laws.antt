@@ -1,10 +1,12 @@
 -- What holds of the discipline.
-use Rattle.std.specs.Prelude.{◌≡◌, ℕ, Bool, true, false, List, Option, Some, slice_get}
+use Rattle.std.specs.Prelude.{◌≡◌, ◌==◌, not, ℕ, Bool, true, false, List, Option, Some, slice_get}
 use Rattle.size_table.specs.Blocks.{Block}
-use Rattle.flat_code.specs.Code.{FSteps, ◌+++◌, FFunction, FCode}
-use Rattle.flat_code.specs.Recognized.{Sequence, sequence_steps, is_apart}
+use Rattle.bb_words.specs.declared.kinds.ReportKind.TheVariants.{Bounds}
+use Rattle.flat_code.specs.Code.{FStep, FSteps, ◌+++◌, FFunction, FCode}
+use Rattle.flat_code.specs.Recognized.{number_of_kind, Sequence, sequence_steps, is_apart}
 use Rattle.flat_verify.specs.Items.{Item, Items, all_steps, items_of}
 use Rattle.flat_verify.specs.Facts.{Fact}
+use Rattle.flat_verify.specs.Breaks.{is_plain}
 use Rattle.flat_verify.specs.Closed.{Known, ClosedOn, Exact}
 use Rattle.flat_verify.specs.Discipline.{setting, edges, LostAt, BreaksBy, Place, FirstBad, FirstBreak, IsDisciplined}
 use Rattle.flat_verify.specs.Derivations.{Signs, GoodProgram}
@@ -18,6 +20,29 @@ ItemsAreSteps = (g : ℕ) (steps : FSteps) → all_steps g (items_of g steps) �
 -- a sequence whose values are apart is found where it stands
 abbrev pub SequencesAreFound : Type 0
 SequencesAreFound = (g : ℕ) (q : Sequence) (rest : FSteps) → is_apart q ≡ true → items_of g (sequence_steps g q +++ rest) ≡ Items.next (Item.Checks q) (items_of g rest)
+
+-- Items whose plain steps begin no sequence: the values of sequences are apart, and no plain step is one that stands in
+-- sequences alone, or reports bounds.
+abbrev pub no_bounds : FStep → Bool
+no_bounds (FStep.Report kind line) = not (number_of_kind Bounds == number_of_kind kind)
+no_bounds s = true
+
+abbrev mutual
+  pub IsPlainly : Item → Type 0
+  IsPlainly (Item.Plain s) = (is_plain s ≡ true) × (no_bounds s ≡ true)
+  IsPlainly (Item.Checks q) = is_apart q ≡ true
+  IsPlainly (Item.If c x y) = ArePlainly x × ArePlainly y
+  IsPlainly (Item.Block x) = ArePlainly x
+  IsPlainly (Item.Loop x) = ArePlainly x
+  IsPlainly (Item.Inner x) = ArePlainly x
+
+  pub ArePlainly : Items → Type 0
+  ArePlainly Items.end = Unit {0}
+  ArePlainly (Items.next i rest) = IsPlainly i × ArePlainly rest
+
+-- such items are read back from their steps
+abbrev pub PlainItemsAreRead : Type 0
+PlainItemsAreRead = (g : ℕ) (is : Items) → ArePlainly is → items_of g (all_steps g is) ≡ is
 
 -- ---- Chains and tables
 

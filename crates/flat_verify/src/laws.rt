@@ -1,5 +1,5 @@
 //! What holds of the discipline, for what stands on it.
-ghost use Rattle.flat_verify.specs.Laws.{ItemsAreSteps, SequencesAreFound, ClosedTablesKnow, DerivationsAreAccepted, FirstIsOne, ExactTablesTell};
+ghost use Rattle.flat_verify.specs.Laws.{ItemsAreSteps, SequencesAreFound, PlainItemsAreRead, ClosedTablesKnow, DerivationsAreAccepted, FirstIsOne, ExactTablesTell};
 ghost use Rattle.flat_verify.specs.Safe.{DisciplinedIsSafe};
 
 /// The items of steps are these steps.
@@ -10,6 +10,11 @@ pub fn items_are_steps()
 /// A sequence whose values are apart is found where it stands.
 pub fn sequences_are_found()
     ensures { SequencesAreFound }
+{}
+
+/// Items whose plain steps begin no sequence are read back from their steps.
+pub fn plain_items_are_read()
+    ensures { PlainItemsAreRead }
 {}
 
 /// A closed table knows no fact that a chain shows to be lost.
