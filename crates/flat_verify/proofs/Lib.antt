@@ -11,6 +11,7 @@ pub mod Checks
 pub mod Tables
 pub mod Accepts
 pub mod ReadBack
+pub mod Worked
 pub mod Begins
 pub mod Runs
 pub mod Safe

@@ -5,6 +5,7 @@ pub mod Breaks
 pub mod Discipline
 pub mod Closed
 pub mod Derivations
+pub mod Examples
 pub mod Laws
 pub mod Comes
 pub mod Safe

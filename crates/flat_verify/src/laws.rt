@@ -1,5 +1,6 @@
 //! What holds of the discipline, for what stands on it.
 ghost use Rattle.flat_verify.specs.Laws.{ItemsAreSteps, SequencesAreFound, PlainItemsAreRead, ClosedTablesKnow, DerivationsAreAccepted, FirstIsOne, ExactTablesTell};
+ghost use Rattle.flat_verify.specs.Examples.{ExamplesBreak};
 ghost use Rattle.flat_verify.specs.Safe.{DisciplinedIsSafe};
 
 /// The items of steps are these steps.
@@ -55,3 +56,8 @@ pub fn disciplined_is_safe()
     size_table::laws::exponent_is_least();
     buddy_heap::laws::place_is_least();
 }
+
+/// Small programs break the discipline, each by one rule at a known place.
+pub fn examples_break()
+    ensures { ExamplesBreak }
+{}
