@@ -7,3 +7,4 @@ pub mod Span
 pub mod Worked
 pub mod More
 pub mod Fronts
+pub mod Found

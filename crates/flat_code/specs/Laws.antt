@@ -1,12 +1,13 @@
 -- What holds of flat code.
-use Rattle.std.specs.Prelude.{◌≡◌, ◌⊎◌, ◌↔◌, ℕ, ◌-◌, ◌^◌, ◌<◌, ◌≤◌, List, ◌++◌, Some, None}
+use Rattle.std.specs.Prelude.{◌≡◌, ◌⊎◌, ◌↔◌, ℕ, ◌-◌, ◌^◌, ◌<◌, ◌≤◌, List, ◌++◌, true, Some, None}
 use Rattle.bb_words.specs.Answers.{Answer}
 use Rattle.bb_words.specs.declared.kinds.ReportKind.TheVariants.{Bounds}
 use Rattle.bb_words.specs.declared.steps.Width.TheVariants.{Pointer}
 use Rattle.marked_ptr.specs.Marked.{owner_slot, moved}
 use Rattle.size_table.specs.Blocks.{Block}
 use Rattle.size_table.specs.Table.{byte_of}
-use Rattle.flat_code.specs.Code.{FSteps, FFunction, FCode}
+use Rattle.flat_code.specs.Code.{FSteps, FFunction, FCode, ◌+++◌}
+use Rattle.flat_code.specs.Recognized.{Sequence, sequence_steps, is_apart, starts, sequence_at}
 use Rattle.flat_code.specs.Told.{Tell, Stamped, tells, output_of, trail_of, Begins, AllBy}
 use Rattle.flat_code.specs.Safety.{live_of, ever_of, AllSafe}
 use Rattle.flat_code.specs.World.{Words, read, FWorld, FPoint, point, spend, Ending, Run, Way}
@@ -118,3 +119,13 @@ abbrev pub SpanSequenceSpans : Type 0
 SpanSequenceSpans =
     (g : ℕ) → 1 ≤ g → g ≤ 24 → (call : Calls) (m frame p n q line d s e : ℕ) → SpanApart p n q line d s e → (u : FPoint)
     → Spans g m frame call p n q line d s e u (act_all g call m frame (span_sequence g p n q line d s e) u)
+
+-- ---- Sequences among other steps
+
+-- A sequence whose values are apart is found where it stands, whatever comes after it.
+abbrev pub SequencesAreFound : Type 0
+SequencesAreFound = (g : ℕ) (sequence : Sequence) (rest : FSteps) → is_apart sequence ≡ true → sequence_at g (sequence_steps g sequence +++ rest) ≡ Some sequence
+
+-- What is found begins the steps, and its values are apart.
+abbrev pub FoundAreSequences : Type 0
+FoundAreSequences = (g : ℕ) (a : FSteps) (sequence : Sequence) → sequence_at g a ≡ Some sequence → (starts (sequence_steps g sequence) a ≡ true) × (is_apart sequence ≡ true)

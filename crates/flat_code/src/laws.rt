@@ -1,5 +1,5 @@
 //! What holds of flat code, for what stands on it.
-ghost use Rattle.flat_code.specs.Laws.{TellsAppend, OutputAppends, TrailAppends, LiveAppends, EverAppends, SafeAppends, StepsAdvance, ProgramsAdvance, AllCame, MoreTurnsExtend, MoveSequenceMoves, LoadSequenceLoads, LoadSequenceStops, SpanSequenceSpans};
+ghost use Rattle.flat_code.specs.Laws.{TellsAppend, OutputAppends, TrailAppends, LiveAppends, EverAppends, SafeAppends, StepsAdvance, ProgramsAdvance, AllCame, MoreTurnsExtend, MoveSequenceMoves, LoadSequenceLoads, LoadSequenceStops, SpanSequenceSpans, SequencesAreFound, FoundAreSequences};
 ghost use Rattle.flat_code.specs.Examples.{ExamplesRun, ExamplesWeigh};
 
 /// What was told in two lists, without its times.
@@ -74,6 +74,16 @@ pub fn span_sequence_spans()
 /// A load sequence whose access ends the run ends it so.
 pub fn load_sequence_stops()
     ensures { LoadSequenceStops }
+{}
+
+/// A sequence whose values are apart is found where it stands.
+pub fn sequences_are_found()
+    ensures { SequencesAreFound }
+{}
+
+/// What is found begins the steps, and its values are apart.
+pub fn found_are_sequences()
+    ensures { FoundAreSequences }
 {}
 
 /// What some small programs do.
