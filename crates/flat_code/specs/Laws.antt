@@ -35,6 +35,27 @@ EverAppends = (ever : List Block) (xs ys : List Tell) → ever_of ever (xs ++ ys
 abbrev pub SafeAppends : Type 0
 SafeAppends = (g : ℕ) (live ever : List Block) (xs ys : List Tell) → AllSafe g live ever (xs ++ ys) ↔ (AllSafe g live ever xs × AllSafe g (live_of live xs) (ever_of ever xs) ys)
 
+-- what came by a time came by every later one
+abbrev pub AllByLater : Type 0
+AllByLater = (a b : ℕ) (xs : List Stamped) → a ≤ b → AllBy a xs → AllBy b xs
+
+abbrev pub AllByAppends : Type 0
+AllByAppends = (t : ℕ) (xs ys : List Stamped) → AllBy t (xs ++ ys) ↔ (AllBy t xs × AllBy t ys)
+
+-- of two fronts of one list one begins with the other
+abbrev pub FrontsCompare : Type 0
+FrontsCompare = (told xs ys : List Stamped) → Begins told xs → Begins told ys → Begins xs ys ⊎ Begins ys xs
+
+-- what begins with a list also begins so in its output and its trail
+abbrev pub OutputBegins : Type 0
+OutputBegins = (xs ys : List Tell) → Begins xs ys → Begins (output_of xs) (output_of ys)
+
+abbrev pub TrailBegins : Type 0
+TrailBegins = (xs ys : List Tell) → Begins xs ys → Begins (trail_of xs) (trail_of ys)
+
+abbrev pub TellsBegin : Type 0
+TellsBegin = (xs ys : List Stamped) → Begins xs ys → Begins (tells xs) (tells ys)
+
 -- ---- What a run leaves behind
 
 -- where a run stands when it goes on or has ended

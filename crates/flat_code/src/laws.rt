@@ -1,5 +1,5 @@
 //! What holds of flat code, for what stands on it.
-ghost use Rattle.flat_code.specs.Laws.{TellsAppend, OutputAppends, TrailAppends, LiveAppends, EverAppends, SafeAppends, StepsAdvance, ProgramsAdvance, AllCame, MoreTurnsExtend, MoveSequenceMoves, LoadSequenceLoads, LoadSequenceStops, SpanSequenceSpans, SequencesAreFound, FoundAreSequences};
+ghost use Rattle.flat_code.specs.Laws.{TellsAppend, OutputAppends, TrailAppends, LiveAppends, EverAppends, SafeAppends, AllByLater, AllByAppends, FrontsCompare, OutputBegins, TrailBegins, TellsBegin, StepsAdvance, ProgramsAdvance, AllCame, MoreTurnsExtend, MoveSequenceMoves, LoadSequenceLoads, LoadSequenceStops, SpanSequenceSpans, SequencesAreFound, FoundAreSequences};
 ghost use Rattle.flat_code.specs.Examples.{ExamplesRun, ExamplesWeigh};
 
 /// What was told in two lists, without its times.
@@ -30,6 +30,36 @@ pub fn ever_appends()
 /// Two lists are safe one after the other exactly if each is, by the blocks of its time.
 pub fn safe_appends()
     ensures { SafeAppends }
+{}
+
+/// What came by a time came by every later one.
+pub fn all_by_later()
+    ensures { AllByLater }
+{}
+
+/// Two lists came by a time exactly if each did.
+pub fn all_by_appends()
+    ensures { AllByAppends }
+{}
+
+/// Of two fronts of one list one begins with the other.
+pub fn fronts_compare()
+    ensures { FrontsCompare }
+{}
+
+/// The output of a list begins with that of its front.
+pub fn output_begins()
+    ensures { OutputBegins }
+{}
+
+/// The trail of a list begins with that of its front.
+pub fn trail_begins()
+    ensures { TrailBegins }
+{}
+
+/// What a list tells begins with what its front tells.
+pub fn tells_begin()
+    ensures { TellsBegin }
 {}
 
 /// Steps only add to what was told, from any point, and take time.
