@@ -8,3 +8,4 @@ pub mod Worked
 pub mod More
 pub mod Fronts
 pub mod Found
+pub mod Straight

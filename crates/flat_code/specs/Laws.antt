@@ -1,5 +1,5 @@
 -- What holds of flat code.
-use Rattle.std.specs.Prelude.{◌≡◌, ◌⊎◌, ◌↔◌, ℕ, ◌-◌, ◌^◌, ◌<◌, ◌≤◌, List, ◌++◌, true, Some, None}
+use Rattle.std.specs.Prelude.{◌≡◌, ◌⊎◌, ◌↔◌, ℕ, ◌+◌, ◌-◌, ◌^◌, ◌<◌, ◌≤◌, List, ◌++◌, true, Some, None}
 use Rattle.bb_words.specs.Answers.{Answer}
 use Rattle.bb_words.specs.declared.kinds.ReportKind.TheVariants.{Bounds}
 use Rattle.bb_words.specs.declared.steps.Width.TheVariants.{Pointer}
@@ -10,6 +10,7 @@ use Rattle.flat_code.specs.Code.{FSteps, FFunction, FCode, ◌+++◌}
 use Rattle.flat_code.specs.Recognized.{Sequence, sequence_steps, is_apart, starts, sequence_at}
 use Rattle.flat_code.specs.Told.{Tell, Stamped, tells, output_of, trail_of, Begins, AllBy}
 use Rattle.flat_code.specs.Safety.{live_of, ever_of, AllSafe}
+use Rattle.flat_code.specs.Time.{AreStraight, charges}
 use Rattle.flat_code.specs.World.{Words, read, FWorld, FPoint, point, spend, Ending, Run, Way}
 use Rattle.flat_code.specs.Run.{refusal, Calls, act_all, calls, flat_run}
 use Rattle.flat_code.specs.Sequences.{move_sequence, MoveApart, DoesMove, move_time, load_sequence, LoadApart, may_be_loaded, DoesLoad, span_sequence, SpanApart, span_begin, SpanKept, DoesSpan}
@@ -91,6 +92,12 @@ ProgramsAdvance = (g : ℕ) (frames : List (List ℕ)) (m : ℕ) (functions : Li
 abbrev pub AllCame : Type 0
 AllCame = (g : ℕ) (code : FCode) (globals : List Block) (frames : List (List ℕ)) (input : List ℕ) (m : ℕ) →
     let w = (point_of (flat_run g code globals frames input m)).world in AllBy w.time w.told
+
+-- code without loops and calls takes no longer than all its charges together
+abbrev pub StraightTakes : Type 0
+StraightTakes =
+    (g : ℕ) (call : Calls) (m frame : ℕ) (xs : FSteps) → AreStraight xs → (u : FPoint)
+    → (point_of (act_all g call m frame xs u)).world.time ≤ u.world.time + charges xs
 
 -- ---- More turns and calls
 

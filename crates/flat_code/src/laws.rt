@@ -1,5 +1,5 @@
 //! What holds of flat code, for what stands on it.
-ghost use Rattle.flat_code.specs.Laws.{TellsAppend, OutputAppends, TrailAppends, LiveAppends, EverAppends, SafeAppends, AllByLater, AllByAppends, FrontsCompare, OutputBegins, TrailBegins, TellsBegin, StepsAdvance, ProgramsAdvance, AllCame, MoreTurnsExtend, MoveSequenceMoves, LoadSequenceLoads, LoadSequenceStops, SpanSequenceSpans, SequencesAreFound, FoundAreSequences};
+ghost use Rattle.flat_code.specs.Laws.{TellsAppend, OutputAppends, TrailAppends, LiveAppends, EverAppends, SafeAppends, AllByLater, AllByAppends, FrontsCompare, OutputBegins, TrailBegins, TellsBegin, StepsAdvance, ProgramsAdvance, AllCame, StraightTakes, MoreTurnsExtend, MoveSequenceMoves, LoadSequenceLoads, LoadSequenceStops, SpanSequenceSpans, SequencesAreFound, FoundAreSequences};
 ghost use Rattle.flat_code.specs.Examples.{ExamplesRun, ExamplesWeigh};
 
 /// What was told in two lists, without its times.
@@ -75,6 +75,11 @@ pub fn programs_advance()
 /// All that a run has told came by its time.
 pub fn all_came()
     ensures { AllCame }
+{}
+
+/// Code without loops and calls takes no longer than all its charges together.
+pub fn straight_takes()
+    ensures { StraightTakes }
 {}
 
 /// With more turns and calls a run that has ended is the same, and one that is cut goes on.
