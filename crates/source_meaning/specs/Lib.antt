@@ -11,3 +11,4 @@ pub mod States
 pub mod Operators
 pub mod Meaning
 pub mod Runs
+pub mod Laws

@@ -7,4 +7,5 @@
 //! nothing of machines.
 #![tactic(auto)]
 
+pub mod laws;
 pub mod values;
