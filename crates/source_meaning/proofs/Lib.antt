@@ -4,3 +4,8 @@ pub mod Operations
 pub mod Longer
 pub mod Expressions
 pub mod MoreTurns
+pub mod ExamplesMoves
+pub mod ExamplesMemory
+pub mod ExamplesCopies
+pub mod ExamplesCalls
+pub mod ExamplesAccounts

@@ -7,5 +7,6 @@
 //! nothing of machines.
 #![tactic(auto)]
 
+pub mod examples;
 pub mod laws;
 pub mod values;
