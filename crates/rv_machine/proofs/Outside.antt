@@ -8,7 +8,8 @@ use Rattle.bb_outside.specs.declared.SinkFailed.{SinkFailed}
 use Rattle.bb_outside.specs.Streams.{Takes, Ends, TakesSome, Puts}
 use Rattle.rv_machine.specs.State.{State, gives, with_core, register_of}
 use Rattle.bb_watch.specs.declared.event.Event.{Event}
-use Rattle.rv_machine.specs.Environment.{World, Tell, Output, Happens, output_of, gets, puts}
+use Rattle.rv_machine.specs.Environment.{World, gets, puts}
+use Rattle.bb_watch.specs.Told.{Tell, Output, Happens, output_of}
 use Rattle.rv_machine.specs.Runs.{Ran, Shown}
 
 -- what is told, with nothing more

@@ -1,7 +1,5 @@
 pub mod State
-pub mod Memory
 pub mod Instruction
-pub mod Blocks
 pub mod Frames
 pub mod Environment
 pub mod Machine

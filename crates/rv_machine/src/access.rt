@@ -12,6 +12,9 @@ pub(crate) fn trap_of(at: u32, size: u32) -> Option<TrapKind>
     ensures within { IfNone result ((2097152 ≤ at) × (at < 33554432)) }
     ensures aligned { IfNone result (at % size ≡ 0) }
 {
+    if at >= 0x20_0000 && at < 0x200_0000 && at % size == 0 {
+        return None;
+    }
     if at < 0x1000 {
         return Some(TrapKind::Null);
     }
@@ -24,11 +27,7 @@ pub(crate) fn trap_of(at: u32, size: u32) -> Option<TrapKind>
     if at < 0x20_0000 {
         return Some(TrapKind::Text);
     }
-    if at % size == 0 {
-        None
-    } else {
-        Some(TrapKind::Misaligned)
-    }
+    Some(TrapKind::Misaligned)
 }
 
 /// The word of a signed byte.

@@ -9,7 +9,7 @@ use crate::access::{signed_byte, signed_half, trap_of};
 use crate::memory::{
     clear_in_table, half_at, set_in_table, word_at, write_bytes, write_table, write_words, zeros,
 };
-use crate::stop::Effect;
+use crate::stop::{Effect, Pause};
 use bb_words::kinds::TrapKind;
 use bb_words::word::Word;
 use rv_code::decode::decode;
@@ -22,7 +22,7 @@ use std::marker::Model;
 #[derive(Drop)]
 pub struct Core {
     pc: u32,
-    registers: [u32; 32],
+    registers: Vec<u32>,
     memory: Vec<u8>,
 }
 
@@ -32,19 +32,22 @@ impl Model for Core {
 
     ghost Value = { CoreState };
 
-    ghost view = { λ c. record { pc = c.pc; registers = c.registers; memory = c.memory.items } };
+    ghost view = { λ c. record { pc = c.pc; registers = c.registers.items; memory = c.memory.items } };
 
-    ghost invariant = { λ c. vec_len c.memory ≡ 33554432 };
+    ghost invariant = { λ c. (vec_len c.registers ≡ 32) × (vec_len c.memory ≡ 33554432) };
 }
 
 impl Core {
-    ghost use Rattle.size_table.specs.Blocks.{IsBlock, block_at};
+    ghost use Rattle.size_table.specs.Blocks.{Block, IsBlock, block_at};
     ghost use Rattle.size_table.specs.Table.{filled};
-    ghost use Rattle.rv_machine.specs.Blocks.{made, ended};
-    ghost use Rattle.rv_machine.specs.Memory.{half_at, word_at};
+    ghost use Rattle.size_table.specs.Made.{made, ended};
+    ghost use Rattle.size_table.specs.Memory.{half_at, word_at};
     ghost use Rattle.rv_machine.specs.State.{register_of, set_register, next, gives, with_memory};
     ghost use Rattle.rv_machine.specs.Instruction.{address, loads, stores, jumps, links, branches, effect, core_step, Does};
     ghost use Rattle.rv_machine.specs.Start.{start};
+    ghost use Rattle.rv_machine.specs.State.{Frames};
+    ghost use Rattle.rv_machine.specs.Machine.{steps};
+    ghost use Rattle.rv_machine.specs.Runs.{Shown, Ran, Paused, running};
 
     /// The core at the start of an image. It takes all memory that the machine ever needs.
     #[tactic(auto, unfolding(crate::specs::Start::start, crate::specs::Start::start_memory))]
@@ -56,7 +59,7 @@ impl Core {
         write_words(&mut memory, 0x1000, image.text.as_slice());
         write_table(&mut memory, 0x2A_0000, image.globals.as_slice());
         write_bytes(&mut memory, 0xA0_0000, image.initial.as_slice());
-        let mut registers = [0u32; 32];
+        let mut registers = vec![in alloc; 0u32; 32]?;
         registers[2] = 0xA0_0000;
         registers[31] = 0x20_0000;
         Ok(Core {
@@ -86,9 +89,29 @@ impl Core {
         self.memory[at as usize]
     }
 
+    /// At most n instructions, up to one that is trapped or asks the environment.
+    ///
+    /// The core is taken and given back, so that the loop has a copy of its own: its program counter stays in a register,
+    /// and no write to the memory can reach it or the registers. It is one function for all sources and sinks.
+    #[inline(never)]
+    pub(crate) fn go(mut self, n: u64) -> (Core, Pause)
+        ensures ran { (frames : Frames) (heap : List Block) (o : Shown) → Ran (steps result.1.went) (running self frames heap) o (running result.0 frames heap) o }
+        ensures pause { Paused result.1.effect n result.1.went result.0 }
+    {
+        for went in 0..n {
+            match self.step() {
+                Effect::Went => {}
+                effect => return (self, Pause { went, effect }),
+            }
+        }
+        let effect = Effect::Went;
+        (self, Pause { went: n, effect })
+    }
+
     /// One instruction, up to a question to the environment.
+    #[inline(always)]
     #[tactic(auto, unfolding(crate::specs::Instruction::core_step))]
-    pub(crate) fn step(&mut self) -> Effect
+    fn step(&mut self) -> Effect
         ensures does { Does self.old self.new result (core_step self.old) }
         ensures in_text { result ≡ Effect.Asked → self.new.pc < 2097152 }
     {
@@ -106,6 +129,7 @@ impl Core {
     }
 
     // The table of the instructions, a row for each.
+    #[inline(always)]
     fn execute(&mut self, instr: Instr) -> Effect
         requires fit { Fits instr }
         requires in_text { self.old.pc < 2097152 }
@@ -421,7 +445,7 @@ impl Core {
     }
 
     /// Makes a block: its bytes are zero, and the size table has its exponent.
-    #[tactic(auto, unfolding(crate::specs::Blocks::made))]
+    #[tactic(auto, unfolding(size_table::specs::Made::made))]
     pub(crate) fn make(&mut self, base: u32, exponent: u8)
         requires { IsBlock 4 (block_at base exponent) }
         ensures { self.new ≡ with_memory (made (block_at base exponent) self.old.memory) self.old }
@@ -431,7 +455,7 @@ impl Core {
     }
 
     /// Ends a block: the size table has 0 for it, and its bytes stay.
-    #[tactic(auto, unfolding(crate::specs::Blocks::ended))]
+    #[tactic(auto, unfolding(size_table::specs::Made::ended))]
     pub(crate) fn end(&mut self, base: u32, exponent: u8)
         requires { IsBlock 4 (block_at base exponent) }
         ensures { self.new ≡ with_memory (ended (block_at base exponent) self.old.memory) self.old }

@@ -1,7 +1,7 @@
 //! The frames of an image, and the calls that were entered.
 ghost use Rattle.std.specs.Prelude.{◌≡◌, ◌+◌, ◌<◌, ◌≤◌, ◌++◌, ◌∷◌, [], length, vec_len, vec_capacity, slice_get, IfOk, IfNone, Some};
 ghost use Rattle.rv_image.specs.Rules.{IsImage, total_size, Decline, AreFrames};
-ghost use Rattle.rv_machine.specs.Blocks.{AreExponents};
+ghost use Rattle.size_table.specs.Made.{AreExponents};
 ghost use Rattle.rv_machine.specs.Frames.{stack_under};
 
 use crate::blocks::{end_all, make_all, total_size};

@@ -1,8 +1,9 @@
 //! The machine with its environment, and runs of it.
-ghost use Rattle.std.specs.Prelude.{◌≡◌, ◌<◌, ℕ, Bool, List, Option, None, slice_index, IfOk};
+ghost use Rattle.std.specs.Prelude.{◌≡◌, ◌<◌, ◌≤◌, ℕ, Bool, List, Option, None, slice_index, IfOk, IfSome, IfNone};
 ghost use Rattle.bb_outside.specs.Causes.{HasCause};
 ghost use Rattle.rv_image.specs.Rules.{IsImage};
 ghost use Rattle.rv_machine.specs.Environment.{kind_of};
+ghost use Rattle.rv_machine.specs.Runs.{stop_at};
 
 use crate::core_step::Core;
 use crate::frames::{Entry, Frames};
@@ -10,15 +11,20 @@ use crate::stop::{Effect, Fault, Halt, Stop};
 use bb_outside::{Sink, SinkFailed, Source, SourceFailed};
 use bb_words::kinds::{ReportKind, TrapKind};
 use bb_words::word::Word;
+use buddy_heap::heap::Heap;
+use core::mem::replace_with;
 use rv_image::image::Image;
+use size_table::memory_map::MOST_BYTES;
+use size_table::padding::exponent;
 use std::alloc::{AllocError, Global};
 use std::marker::Model;
 
-/// A machine: its registers, its memory, the calls entered, and how it has ended, if it has.
+/// A machine: its registers, its memory, the calls entered, the blocks of the heap, and how it has ended, if it has.
 #[derive(Drop)]
 pub struct Machine {
     core: Core,
     frames: Frames,
+    heap: Heap,
     ended: Option<Halt>,
 }
 
@@ -27,17 +33,16 @@ impl Model for Machine {
 
     ghost Value = { State };
 
-    ghost view = { λ m. record { core = m.core; frames = m.frames; ending = m.ended } };
+    ghost view = { λ m. record { core = m.core; frames = m.frames; heap = m.heap; ending = m.ended } };
 }
 
 impl Machine {
     ghost use Rattle.rv_machine.specs.declared.stop.Halt.TheVariants.{Trapped};
     ghost use Rattle.rv_machine.specs.State.{register_of, halted};
     ghost use Rattle.rv_machine.specs.Instruction.{Asks, core_step};
-    ghost use Rattle.rv_machine.specs.Environment.{calls, exits, gets, puts, reported, reports, enters, leaves};
-    ghost use Rattle.rv_machine.specs.Machine.{step};
+    ghost use Rattle.rv_machine.specs.Environment.{calls, exits, gets, puts, reported, reports, enters, leaves, mallocs, frees};
     ghost use Rattle.rv_machine.specs.Start.{start};
-    ghost use Rattle.rv_machine.specs.Runs.{Answered, Stepped, Stops, FaultCause, fault_of, stop_of};
+    ghost use Rattle.rv_machine.specs.Runs.{Answered, Stepped, Advanced, Stops, FaultCause, fault_of, stop_of};
 
     /// The machine at the start of an image. It takes all memory that the machine ever needs.
     #[tactic(auto, unfolding(crate::specs::Start::start))]
@@ -47,9 +52,11 @@ impl Machine {
     {
         let core = Core::new(alloc, image)?;
         let frames = Frames::new(alloc, &image.frames)?;
+        let heap = Heap::new(alloc)?;
         Ok(Machine {
             core,
             frames,
+            heap,
             ended: None,
         })
     }
@@ -62,14 +69,16 @@ impl Machine {
             self.new (record { left = I.left input.new; is_over = I.is_over input.new; written = O.written output.new }) }
         ensures cause { FaultCause (fault_of result) (I.faults input.old) (I.faults input.new) (O.faults output.old) (O.faults output.new) }
     {
-        for _done in 0..n {
+        let mut done = 0;
+        while done < n {
             if self.ended.is_some() {
                 return self.stop();
             }
-            match self.step(input, output) {
+            let (went, fault) = self.advance(n - done, input, output);
+            done += went;
+            match fault {
                 None => {}
-                Some(Fault::Read) => return Stop::ReadFault,
-                Some(Fault::Write) => return Stop::WriteFault,
+                Some(fault) => return stop_at(fault),
             }
         }
         self.stop()
@@ -109,20 +118,32 @@ impl Machine {
         }
     }
 
-    fn step<I: Source, O: Sink>(&mut self, input: &mut I, output: &mut O) -> Option<Fault>
-        requires { self.old.ending ≡ None }
-        ensures stepped { Stepped result step
+    // At most n instructions, up to an environment call or a trap: how many, and the fault of the call, if it failed.
+    fn advance<I: Source, O: Sink>(
+        &mut self,
+        n: u64,
+        input: &mut I,
+        output: &mut O,
+    ) -> (u64, Option<Fault>)
+        requires running { self.old.ending ≡ None }
+        requires some { 0 < n }
+        ensures advanced { Advanced result.1 result.0
             self.old (record { left = I.left input.old; is_over = I.is_over input.old; written = O.written output.old })
             self.new (record { left = I.left input.new; is_over = I.is_over input.new; written = O.written output.new }) }
-        ensures cause { FaultCause result (I.faults input.old) (I.faults input.new) (O.faults output.old) (O.faults output.new) }
+        ensures within { IfNone result.1 (0 < result.0) × (result.0 ≤ n) × IfSome result.1 (λ _. result.0 < n) }
+        ensures cause { FaultCause result.1 (I.faults input.old) (I.faults input.new) (O.faults output.old) (O.faults output.new) }
     {
-        match self.core.step() {
-            Effect::Went => None,
+        let pause = replace_with(&mut self.core, n, Core::go);
+        match pause.effect {
+            Effect::Went => (pause.went, None),
             Effect::Trapped { kind } => {
                 self.trap(kind);
-                None
+                (pause.went + 1, None)
             }
-            Effect::Asked => self.call(input, output),
+            Effect::Asked => match self.call(input, output) {
+                None => (pause.went + 1, None),
+                Some(fault) => (pause.went, Some(fault)),
+            },
         }
     }
 
@@ -149,6 +170,14 @@ impl Machine {
                 Ok(()) => None,
                 Err(_) => Some(Fault::Write),
             },
+            4 => {
+                self.malloc();
+                None
+            }
+            5 => {
+                self.free();
+                None
+            }
             6 => {
                 self.report();
                 None
@@ -222,6 +251,46 @@ impl Machine {
         }
     }
 
+    // Makes a block for a size, which is in x10, and x10 becomes its base, or 0.
+    #[tactic(auto, unfolding(crate::specs::Environment::new_block))]
+    fn malloc(&mut self)
+        requires { self.old.core.pc < 2097152 }
+        ensures { self.new ≡ mallocs self.old }
+    {
+        let size = self.core.register(10);
+        if size > MOST_BYTES {
+            self.core.give(10, 0);
+            return;
+        }
+        let e = exponent(size);
+        match self.heap.take(e) {
+            Some(base) => {
+                self.core.make(base, e);
+                self.core.give(10, base);
+            }
+            None => self.core.give(10, 0),
+        }
+    }
+
+    // Ends the block that begins at x10.
+    fn free(&mut self)
+        requires { self.old.core.pc < 2097152 }
+        ensures { self.new ≡ frees self.old }
+    {
+        let at = self.core.register(10);
+        if at == 0 {
+            self.core.pass();
+            return;
+        }
+        match self.heap.give(at) {
+            Ok(e) => {
+                self.core.end(at, e);
+                self.core.pass();
+            }
+            Err(_) => self.end_by(ReportKind::BadFree),
+        }
+    }
+
     fn exit(&mut self)
         requires { self.old.core.pc < 2097152 }
         ensures { self.new ≡ exits self.old }
@@ -268,6 +337,16 @@ impl Machine {
             }
             Err(failed) => Err(failed),
         }
+    }
+}
+
+// Why a run comes back at a fault.
+fn stop_at(fault: Fault) -> Stop
+    ensures { result ≡ stop_at fault }
+{
+    match fault {
+        Fault::Read => Stop::ReadFault,
+        Fault::Write => Stop::WriteFault,
     }
 }
 

@@ -1,9 +1,9 @@
 //! Bytes and words in memory.
 ghost use Rattle.std.specs.Prelude.{◌≡◌, ◌+◌, ◌-◌, ◌*◌, ◌^◌, ◌≤◌, length, replicate, vec_len, IfOk, All};
 ghost use Rattle.size_table.specs.Blocks.{IsBlock, block_at};
-ghost use Rattle.rv_machine.specs.Blocks.{tabled};
+ghost use Rattle.size_table.specs.Made.{tabled};
 ghost use Rattle.rv_machine.specs.State.{memory_size};
-ghost use Rattle.rv_machine.specs.Memory.{half_at, word_at, written_at, bytes_of_words, table_bytes, IsExponent};
+ghost use Rattle.size_table.specs.Memory.{half_at, word_at, written_at, bytes_of_words, table_bytes, IsExponent};
 
 use std::alloc::{AllocError, Global};
 

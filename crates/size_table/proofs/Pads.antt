@@ -1,5 +1,5 @@
 -- The exponent of a padded size is the least that serves.
-use Rattle.std.proofs.Common.{◌≡◌, ℕ, zero, suc, ◌+◌, ◌-◌, ◌^◌, ◌<◌, ◌≤◌, leb-true, leb-false, Bool, true, false, cond, leb, refl, sym, ap, subst, arith}
+use Rattle.std.proofs.Common.{◌≡◌, ℕ, zero, suc, ◌+◌, ◌-◌, ◌^◌, ◌≤◌, leb-true, leb-false, Bool, true, false, cond, leb, refl, subst, arith}
 use Rattle.size_table.specs.Pads.{exponent_from, exponent_of, IsExponentOf, ExponentIsLeast}
 
 -- an exponent that serves, where e does not, is above e

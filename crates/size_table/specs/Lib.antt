@@ -1,3 +1,5 @@
-pub mod Pads
 pub mod Blocks
+pub mod Pads
 pub mod Table
+pub mod Made
+pub mod Memory

@@ -1,6 +1,6 @@
 -- How many bytes an object is padded to: the least power of two that is at least a slot, of 2 ^ g bytes, and at least the
 -- object's length (Akritidis et al., Baggy Bounds Checking, section 3).
-use Rattle.std.specs.Prelude.{◌≡◌, ℕ, zero, suc, ◌+◌, ◌-◌, ◌^◌, ◌≤◌, nat_le, if◌then◌else◌}
+use Rattle.std.specs.Prelude.{ℕ, zero, suc, ◌+◌, ◌-◌, ◌^◌, ◌≤◌, nat_le, if◌then◌else◌}
 
 -- the first of the exponents from e on, at most so many further ones, whose power is at least n
 abbrev pub exponent_from : (steps e n : ℕ) → ℕ

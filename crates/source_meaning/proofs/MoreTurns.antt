@@ -3,6 +3,7 @@ use Rattle.std.proofs.Common.{◌≡◌, ℕ, zero, suc, ◌+◌, ◌≤◌, Boo
 use Rattle.std.specs.Prelude.{slice_get, nat_le, nat_lt, if◌then◌else◌}
 use Rattle.bb_words.specs.Answers.{Answer, Goes, Ends, and_then}
 use Rattle.bb_words.specs.declared.kinds.ReportKind.TheVariants.{Depth, Stack}
+use Rattle.size_table.specs.declared.memory_map.TheConstants.{STACK_START, MOST_CALLS}
 use Rattle.block_layout.specs.Layout.{layout, stack_under}
 use Rattle.block_layout.specs.Objects.{block_items}
 use Rattle.c_words.specs.declared.place.At.{At}
@@ -15,7 +16,7 @@ use Rattle.source_meaning.specs.declared.values.Signal.TheVariants.{Falls, Broke
 use Rattle.source_meaning.specs.declared.values.Ending.{Ending}
 use Rattle.source_meaning.specs.declared.values.Ending.TheVariants.{Exited, Reported, Trapped, Outside, Cut}
 use Rattle.source_meaning.specs.Worlds.{World, Line, with_number}
-use Rattle.source_meaning.specs.Accounts.{most_calls, least_stack, entered_at}
+use Rattle.source_meaning.specs.Accounts.{entered_at}
 use Rattle.source_meaning.specs.Sites.{sites_of, sites_of_stmt, sites_of_start, sites_of_option, sites_of_initializer, first_site}
 use Rattle.source_meaning.specs.States.{State, Runs, tick, done_in, local_place}
 use Rattle.source_meaning.specs.Meaning.{Calls, begin, then_next, then_tail, then_again, turns, run_initializer, declare, declare_all, run_start, execute, execute_all, type_in}
@@ -136,7 +137,7 @@ if_any_longer g (Some f) r q h vs c = function_longer g f (r f) (q f) (h f) vs c
 
 past_same : (f : Option CFunction) (c : State) → Longer c (call_past f c) (call_past f c)
 past_same None c = ends_same _
-past_same (Some f) c = of (nat_le most_calls c.world.depth)
+past_same (Some f) c = of (nat_le MOST_CALLS c.world.depth)
   where
     of : (b : Bool) → Longer {A = Value} c (if b then Ends (Reported Depth f.line) (count_call f c) else Ends Cut c) (if b then Ends (Reported Depth f.line) (count_call f c) else Ends Cut c)
     of true = alike _ follows_same
@@ -152,7 +153,7 @@ calls_same g p m (suc j) f vs c =
 deep_longer : (g : ℕ) (f : Option CFunction) (q : CFunction → State → Runs Signal) → ((h : CFunction) → AreLonger (q h) (q h)) → (vs : List Value) (c : State) → Longer c (call_past f c) (call_if_any g f q vs c)
 unfolding and_then
 deep_longer g None q h vs c = ends_same _
-deep_longer g (Some f) q h vs c = of (nat_le most_calls c.world.depth) refl
+deep_longer g (Some f) q h vs c = of (nat_le MOST_CALLS c.world.depth) refl
   where
     growing : Follows c.world (reached (call_function g f (q f) vs c)).world
     growing = (function_longer g f (q f) (q f) (h f) vs c).grows
@@ -163,10 +164,10 @@ deep_longer g (Some f) q h vs c = of (nat_le most_calls c.world.depth) refl
 
     reported : (b : Bool) → Answer Ending World (Unit {0})
     reported b = if b then Ends (Reported Depth f.line) c.world else
-        (if nat_lt (stack_under g c.world.stack (block_items f)) least_stack then Ends (Reported Stack f.line) c.world
+        (if nat_lt (stack_under g c.world.stack (block_items f)) STACK_START then Ends (Reported Stack f.line) c.world
         else Goes tt (entered_at (stack_under g c.world.stack (block_items f)) (layout g (block_items f)) c.world))
 
-    of : (b : Bool) → nat_le most_calls c.world.depth ≡ b → Longer c (if b then Ends (Reported Depth f.line) (count_call f c) else Ends Cut c) (call_function g f (q f) vs c)
+    of : (b : Bool) → nat_le MOST_CALLS c.world.depth ≡ b → Longer c (if b then Ends (Reported Depth f.line) (count_call f c) else Ends Cut c) (call_function g f (q f) vs c)
     of true e = record { kept = ap (λ b. answers (reported b)) e; grows = growing }
     of false e = cut_longer _ growing
 

@@ -7,6 +7,7 @@ use Rattle.bb_words.specs.declared.steps.Width.TheVariants as width
 use Rattle.bb_words.specs.declared.steps.OrderOp.{OrderOp}
 use Rattle.bb_words.specs.declared.steps.OrderOp.TheVariants as order
 use Rattle.bb_words.specs.Steps.{size_of_width}
+use Rattle.size_table.specs.declared.memory_map.TheConstants.{STACK_START, MOST_CALLS, MOST_BYTES}
 use Rattle.size_table.specs.Pads.{exponent_of}
 use Rattle.buddy_heap.specs.Places.{place_of}
 use Rattle.block_layout.specs.Layout.{Item, Placed, layout, stack_under}
@@ -30,8 +31,8 @@ use Rattle.source_meaning.specs.Numbers.{calculated}
 use Rattle.source_meaning.specs.Moves.{move, move_in, is_within, distance}
 use Rattle.source_meaning.specs.Accesses.{access, access_in, access_live, number_read, pointer_read, read_as, load, store, written_at}
 use Rattle.source_meaning.specs.Comparisons.{with_sound, comparing, same, within_one, ordered, elements_between, truth}
-use Rattle.source_meaning.specs.Copies.{span, copy, fill, clear, initialize, initialized_with, with_bytes, longest_range}
-use Rattle.source_meaning.specs.Accounts.{object_of, all_made, entered_at, enter, leave, allocate, allocated_at, free, freed_in, put, get, get_from, library, argument, most_calls, least_stack, largest_request}
+use Rattle.source_meaning.specs.Copies.{span, copy, fill, clear, initialize, initialized_with, with_bytes}
+use Rattle.source_meaning.specs.Accounts.{object_of, all_made, entered_at, enter, leave, allocate, allocated_at, free, freed_in, put, get, get_from, library, argument}
 use Rattle.source_meaning.specs.Operators.{move_by, cast, on_two_numbers, unlike, on_binary, step, is_down}
 use Rattle.source_meaning.specs.Laws.{Follows}
 use Rattle.source_meaning.proofs.Later.{begins_same, stay, follows_same, follows_then, noted_follows, made_follows, ended_follows, all_ended_follows, Leads, goes_leads, ends_leads, leads_then, if_leads, either_leads}
@@ -124,7 +125,7 @@ truth_leads (Ptr (To k z)) w = if_leads (is_sound w (To k z)) (goes_leads _) (en
 
 span_leads : (g site line n : ℕ) (q : Pointer) (w : World) → Leads w (span g site line n q w)
 span_leads g site line n q w =
-    if_leads (nat_lt longest_range n) (ends_leads _)
+    if_leads (nat_lt MOST_BYTES n) (ends_leads _)
     (leads_then (access_leads 1 q w) (λ a v. leads_then (move_leads g site line _ q v) (λ r u. leads_then (access_leads 1 r u) (λ b t. goes_leads a))))
 
 bytes_lead : {w : World} (n : ℕ) (cs : Cells) → Leads {A = Unit {0}} w (Goes tt (with_bytes n cs w))
@@ -162,7 +163,7 @@ placed_follow base plan w =
 
 pub enter_leads : (g line : ℕ) (items : List Item) (w : World) → Leads w (enter g line items w)
 enter_leads g line items w =
-    if_leads (nat_le most_calls w.depth) (ends_leads _) (if_leads (nat_lt (stack_under g w.stack items) least_stack) (ends_leads _) (record { to = placed_follow (stack_under g w.stack items) (layout g items) w }))
+    if_leads (nat_le MOST_CALLS w.depth) (ends_leads _) (if_leads (nat_lt (stack_under g w.stack items) STACK_START) (ends_leads _) (record { to = placed_follow (stack_under g w.stack items) (layout g items) w }))
 
 pub leave_follows : (items : List Item) (caller w : World) → Follows w (leave items caller w)
 leave_follows items caller w =
@@ -171,7 +172,7 @@ leave_follows items caller w =
     follows_then (all_ended_follows (length items) (length caller.objects) w) last
 
 allocate_leads : (g n : ℕ) (w : World) → Leads w (allocate g n w)
-allocate_leads g n w = if_leads (nat_lt largest_request n) (goes_leads _) (found (place_of (heap_blocks w.objects) (exponent_of g n)))
+allocate_leads g n w = if_leads (nat_lt MOST_BYTES n) (goes_leads _) (found (place_of (heap_blocks w.objects) (exponent_of g n)))
   where
     found : (x : Option ℕ) → Leads w (allocated_at g n x w)
     found None = goes_leads _

@@ -1,7 +1,6 @@
 -- Where objects lie, and how deep calls go.
 use Rattle.std.specs.Prelude.{◌≡◌, ℕ, true, false, [], ◌∷◌}
 use Rattle.bb_words.specs.declared.kinds.ReportKind.TheVariants as report
-use Rattle.c_typed.specs.declared.typed.GlobalObject.TheVariants as object
 use Rattle.c_typed.specs.declared.typed_expr.Called.TheVariants.{Defined, Library}
 use Rattle.c_typed.specs.declared.typed_expr.LibCall.TheVariants as lib
 use Rattle.c_typed.specs.TypedTree.{CProgram}
@@ -9,7 +8,7 @@ use Rattle.c_typed.specs.Types.CType.{Void, Char, Int, Array}
 use Rattle.c_typed.specs.TypedTree.CForm.{Call}
 use Rattle.c_typed.specs.TypedTree.CStmt.{Block}
 use Rattle.source_meaning.specs.declared.values.Ending.TheVariants.{Reported, Cut}
-use Rattle.source_meaning.specs.Examples.{Told, told, on, here, e, number, local, does, gives, declared, given, given_none, block, variable, in_memory, function, global, program, main_of, below, at, accounts}
+use Rattle.source_meaning.specs.Examples.{Told, told, here, e, number, local, does, gives, declared, given, given_none, block, variable, in_memory, function, global, program, main_of, accounts}
 use Rattle.source_meaning.specs.Runs.{outcome, outcome_of, calls, first_state, first_world}
 use Rattle.source_meaning.specs.declared.values.Value.TheVariants.{Num}
 use Rattle.source_meaning.specs.States.{State}

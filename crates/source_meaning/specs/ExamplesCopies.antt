@@ -6,7 +6,6 @@ use Rattle.c_words.specs.declared.operators.UnaryOperator.TheVariants as unary
 use Rattle.c_words.specs.declared.operators.StepOperator.TheVariants as step
 use Rattle.c_words.specs.declared.operators.BinaryOperator.TheVariants as op
 use Rattle.c_words.specs.declared.operators.AssignOperator.TheVariants as assign
-use Rattle.c_typed.specs.declared.typed.GlobalObject.TheVariants as object
 use Rattle.c_typed.specs.declared.typed_expr.Called.TheVariants.{Library}
 use Rattle.c_typed.specs.declared.typed_expr.LibCall.TheVariants as lib
 use Rattle.c_typed.specs.declared.typed_expr.Conversion.TheVariants as conversion

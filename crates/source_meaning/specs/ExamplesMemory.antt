@@ -3,7 +3,6 @@ use Rattle.std.specs.Prelude.{[], ◌∷◌, pos}
 use Rattle.bb_words.specs.declared.kinds.TrapKind.TheVariants as trap
 use Rattle.c_words.specs.declared.operators.UnaryOperator.TheVariants as unary
 use Rattle.c_words.specs.declared.operators.BinaryOperator.TheVariants as op
-use Rattle.c_typed.specs.declared.typed.GlobalObject.TheVariants as object
 use Rattle.c_typed.specs.declared.typed_expr.Called.TheVariants.{Defined, Library}
 use Rattle.c_typed.specs.declared.typed_expr.LibCall.TheVariants as lib
 use Rattle.c_typed.specs.declared.typed_expr.Conversion.TheVariants as conversion
@@ -13,7 +12,7 @@ use Rattle.c_typed.specs.TypedTree.CStmt.{Block, If}
 use Rattle.source_meaning.specs.declared.values.OutsideCause.TheVariants as outside
 use Rattle.source_meaning.specs.declared.values.Ending.TheVariants.{Exited, Trapped, Outside}
 use Rattle.source_meaning.specs.Worlds.Mark.{Line, Moved}
-use Rattle.source_meaning.specs.Examples.{on, here, e, number, local, named, array, as_number, set, does, gives, declared, starts, given, given_none, parts, block, variable, in_memory, function, global, program, main_of, below, at, Runs}
+use Rattle.source_meaning.specs.Examples.{here, e, number, local, named, array, as_number, set, does, gives, declared, starts, given, given_none, block, variable, in_memory, function, global, program, main_of, below, at, Runs}
 use Rattle.c_typed.specs.TypedTree.{CProgram}
 
 -- A word has its low byte first; a char keeps the low 8 bits of what it is given.

@@ -5,12 +5,14 @@ pub mod Accesses
 pub mod Comparisons
 pub mod Copies
 pub mod Accounts
+pub mod Start
 pub mod Numbers
 pub mod Sites
 pub mod States
 pub mod Operators
 pub mod Meaning
 pub mod Runs
+pub mod Places
 pub mod Examples
 pub mod ExamplesMoves
 pub mod ExamplesMemory

@@ -1,11 +1,11 @@
 -- The meaning of expressions, initializers and statements (C11 6.5, 6.7.9, 6.8). Operands and arguments are evaluated from
 -- left to right. Each expression and statement has the number of its first pointer move.
-use Rattle.std.specs.Prelude.{ℕ, zero, suc, ◌+◌, ◌*◌, Bool, true, false, List, [], ◌∷◌, length, Option, Some, None, slice_get, pos}
+use Rattle.std.specs.Prelude.{ℕ, zero, suc, ◌+◌, ◌*◌, Bool, true, false, List, [], ◌∷◌, length, Option, Some, None, slice_get}
 use Rattle.bb_words.specs.Answers.{Goes, Ends, and_then, either}
 use Rattle.bb_words.specs.declared.steps.Width.{Width}
 use Rattle.bb_words.specs.declared.steps.Width.TheVariants as width
-use Rattle.block_layout.specs.Layout.{layout, position_of}
-use Rattle.block_layout.specs.Objects.{global_items, global_number}
+use Rattle.block_layout.specs.Layout.{layout}
+use Rattle.block_layout.specs.Objects.{global_items}
 use Rattle.c_words.specs.declared.place.At.{At}
 use Rattle.c_typed.specs.declared.typed.GlobalObject.{GlobalObject}
 use Rattle.c_typed.specs.declared.typed.GlobalObject.TheVariants as global
@@ -16,7 +16,7 @@ use Rattle.c_typed.specs.Sizes.{size_of}
 use Rattle.c_typed.specs.TypedRules.{part_type}
 use Rattle.c_typed.specs.TypedTree.{CExpr, CForm, CExprs, CInitial, CInitials, CInitializer, CDeclaration, CStart, CStmt, CStmts, CLocal, CProgram, type_of}
 use Rattle.source_meaning.specs.declared.values.Pointer.{Pointer}
-use Rattle.source_meaning.specs.declared.values.Pointer.TheVariants.{Null, To}
+use Rattle.source_meaning.specs.declared.values.Pointer.TheVariants.{Null}
 use Rattle.source_meaning.specs.declared.values.Value.{Value}
 use Rattle.source_meaning.specs.declared.values.Value.TheVariants.{Num, Ptr}
 use Rattle.source_meaning.specs.declared.values.Slot.{Slot}
@@ -33,6 +33,7 @@ use Rattle.source_meaning.specs.Worlds.{Line, noted}
 use Rattle.source_meaning.specs.Comparisons.{truth}
 use Rattle.source_meaning.specs.Copies.{clear, initialize}
 use Rattle.source_meaning.specs.Accounts.{library}
+use Rattle.source_meaning.specs.Start.{pointer_to}
 use Rattle.source_meaning.specs.Moves.{distance}
 use Rattle.source_meaning.specs.Sites.{pointee, offset_at, sites_of, sites_of_all, sites_of_initial, sites_of_initializer, sites_of_start, sites_of_option, sites_of_stmt}
 use Rattle.source_meaning.specs.States.{State, Runs, count, tick, doing, giving, senseless, using_value, using_number, using_pointer, using_place, using_address, local_place, with_slot, width_of, finish}
@@ -49,7 +50,7 @@ type_or_void (Some t) = t
 
 -- where a global object lies
 abbrev pub global_place : (g : ℕ) → CProgram → GlobalObject → Pointer
-global_place g p o = To (position_of (global_number p o) (layout g (global_items p))) (pos 0)
+global_place g p o = pointer_to (length p.globals) (layout g (global_items p)) o
 
 module _ (g : ℕ) (p : CProgram) (call : Calls) where
   -- 6.5.2.2 p4: a call, once its arguments are evaluated

@@ -1,32 +1,28 @@
 -- The meaning of calls, and of a whole program: its outcome for an input, where each loop has at most m turns and at most m
 -- calls of its functions are nested.
-use Rattle.std.specs.Prelude.{ℕ, zero, suc, ◌+◌, ◌-◌, ◌*◌, Bool, true, false, nat_lt, nat_le, if◌then◌else◌, List, [], ◌∷◌, length, map, Option, Some, None, slice_get, slice_index_or}
+use Rattle.std.specs.Prelude.{ℕ, zero, suc, ◌+◌, ◌*◌, nat_le, if◌then◌else◌, List, [], ◌∷◌, length, Option, Some, None, slice_get, slice_index_or}
 use Rattle.bb_words.specs.Answers.{Goes, Ends, and_then}
 use Rattle.bb_words.specs.declared.kinds.ReportKind.TheVariants.{Depth}
+use Rattle.size_table.specs.declared.memory_map.TheConstants.{MOST_CALLS}
 use Rattle.block_layout.specs.Layout.{Placed, layout, position_of}
-use Rattle.block_layout.specs.Objects.{global_items, block_items}
-use Rattle.c_typed.specs.declared.typed.InitialByte.{InitialByte}
-use Rattle.c_typed.specs.declared.typed.InitialByte.TheVariants as initial
+use Rattle.block_layout.specs.Objects.{globals_of, block_items}
 use Rattle.c_typed.specs.Types.{CType, is_pointer}
-use Rattle.c_typed.specs.TypedTree.{CGlobal, CLocal, CFunction, CProgram}
+use Rattle.c_typed.specs.TypedTree.{CLocal, CFunction, CProgram}
 use Rattle.source_meaning.specs.declared.values.Pointer.TheVariants.{Null}
 use Rattle.source_meaning.specs.declared.values.Value.{Value}
 use Rattle.source_meaning.specs.declared.values.Value.TheVariants.{Num, Ptr}
-use Rattle.source_meaning.specs.declared.values.Cell.{Cell}
-use Rattle.source_meaning.specs.declared.values.Cell.TheVariants.{Byte, Part}
-use Rattle.source_meaning.specs.declared.values.ObjectKind.TheVariants.{Global}
 use Rattle.source_meaning.specs.declared.values.Slot.{Slot}
 use Rattle.source_meaning.specs.declared.values.Slot.TheVariants.{Kept, Lies}
 use Rattle.source_meaning.specs.declared.values.Signal.{Signal}
 use Rattle.source_meaning.specs.declared.values.Signal.TheVariants.{Falls, Broke, Continued, Gave}
 use Rattle.source_meaning.specs.declared.values.Ending.{Ending}
 use Rattle.source_meaning.specs.declared.values.Ending.TheVariants.{Exited, Reported, Cut}
-use Rattle.source_meaning.specs.Objects.{Cells}
 use Rattle.source_meaning.specs.Worlds.{World, with_number}
-use Rattle.source_meaning.specs.Accounts.{most_calls, object_of, enter, leave}
+use Rattle.source_meaning.specs.Accounts.{enter, leave}
+use Rattle.source_meaning.specs.Start.{start_world}
 use Rattle.source_meaning.specs.Sites.{first_site}
 use Rattle.source_meaning.specs.States.{State, Runs, count, doing, local_place, write}
-use Rattle.source_meaning.specs.Meaning.{Calls, global_place, execute}
+use Rattle.source_meaning.specs.Meaning.{Calls, execute}
 
 -- ---- Calls
 
@@ -85,7 +81,7 @@ call_if_any g (Some f) body vs c = call_function g f (body f) vs c
 -- A call that is nested too deeply is cut, unless so many calls are live that it is reported however many may be nested.
 abbrev pub call_past : Option CFunction → State → Runs Value
 call_past None c = Ends Cut c
-call_past (Some f) c = if nat_le most_calls c.world.depth then Ends (Reported Depth f.line) (count_call f c) else Ends Cut c
+call_past (Some f) c = if nat_le MOST_CALLS c.world.depth then Ends (Reported Depth f.line) (count_call f c) else Ends Cut c
 
 -- the calls of which at most n are nested
 abbrev pub calls : (g : ℕ) → CProgram → (m n : ℕ) → Calls
@@ -94,59 +90,11 @@ calls g p m (suc n) f vs c =
     call_if_any g (slice_get p.functions f)
     (λ h. execute g p (calls g p m n) m h.locals h.body (first_site p.structs p.functions f)) vs c
 
--- ---- The start
+-- ---- Whole programs
 
-abbrev pub first_cell : (g : ℕ) → CProgram → Option InitialByte → Cell
-first_cell g p None = Byte 0
-first_cell g p (Some (initial.Byte b)) = Byte b
-first_cell g p (Some (initial.PointerPart target part)) = Part part (global_place g p target)
-
-abbrev pub initial_of : Option CGlobal → List InitialByte
-initial_of None = []
-initial_of (Some o) = o.initial
-
-abbrev pub text_of : Option (List ℕ) → List ℕ
-text_of None = []
-text_of (Some bytes) = bytes
-
--- what the global object of this number holds at first (6.7.9 p10, 6.4.5 p6): what its initializer says, or its bytes and a
--- zero; all else is zero
-abbrev pub global_cell : (g : ℕ) → CProgram → (number i : ℕ) → Cell
-global_cell g p number i =
-    if nat_lt number (length p.globals) then first_cell g p (slice_get (initial_of (slice_get p.globals number)) i)
-    else Byte (slice_index_or (text_of (slice_get p.texts (number - length p.globals))) i 0)
-
-abbrev pub number_at : Option Placed → ℕ → ℕ
-number_at None other = other
-number_at (Some placed) other = placed.number
-
-abbrev pub object_there : Option Placed → Bool
-object_there None = false
-object_there (Some placed) = true
-
-abbrev pub first_cells : (g : ℕ) → CProgram → List Placed → Cells
-first_cells g p plan k i =
-    if object_there (slice_get plan k) then global_cell g p (number_at (slice_get plan k) k) i else Byte 0
-
--- where the global objects begin, and the stack number at first
-abbrev pub globals_start : ℕ
-globals_start = 10485760
-
-abbrev pub first_stack : ℕ
-first_stack = 16777216
-
--- 5.1.2 p1: before the program starts its global objects are made and get what they hold at first
+-- 5.1.2 p1: before the program starts its global objects get what they hold at first
 abbrev pub first_world : (g : ℕ) → CProgram → (input : List ℕ) → World
-first_world g p input = record {
-  objects = map (object_of Global globals_start) (layout g (global_items p));
-  cells = first_cells g p (layout g (global_items p));
-  rest = input;
-  output = [];
-  depth = 0;
-  stack = first_stack;
-  trail = [];
-  bytes = 0;
-}
+first_world g p input = start_world g (length p.globals) (globals_of p) input
 
 abbrev pub first_state : (g : ℕ) → CProgram → (input : List ℕ) → State
 first_state g p input = record { world = first_world g p input; locals = λ j. Kept (Num 0); nodes = 0 }

@@ -1,7 +1,7 @@
 use Rattle.std.proofs.Common.{refl, arith}
 use Rattle.std.proofs.lemmas.List.Elements.{recursion_from_All}
 use Rattle.rv_machine.specs.declared.frames.Entered.{Entered}
-use Rattle.rv_machine.specs.Blocks.{blocks_from}
+use Rattle.size_table.specs.Made.{blocks_from}
 use Rattle.rv_machine.proofs.CallChain.{placed, calls_stacked, call_entered}
 use Rattle.rv_machine.proofs.frames.Frames.enter.Goals as goal
 use Rattle.size_table.specs.Blocks.{IsBlock}

@@ -1,0 +1,4 @@
+pub mod Rule
+pub mod Conversions
+pub mod Operators
+pub mod Views

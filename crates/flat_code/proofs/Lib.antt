@@ -1,0 +1,6 @@
+pub mod CodeViewed
+pub mod Words
+pub mod Move
+pub mod Advance
+pub mod Load
+pub mod Span
