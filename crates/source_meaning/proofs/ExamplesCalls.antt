@@ -12,7 +12,7 @@ unfolding and_then layout exponent_of signed_right_shift
 conversions = refl
 
 pub quotients : Quotients
-unfolding and_then layout exponent_of signed_quotient signed_remainder
+unfolding and_then layout exponent_of signed_quotient signed_remainder signed_right_shift
 quotients = refl
 
 pub division_by_zero : DivisionByZero

@@ -57,18 +57,16 @@ Conversions = Runs 4 conversions [] 8 (record {
   trail = Line 1 ∷ Line 1 ∷ [];
 })
 
--- Quotients are rounded toward zero, and the one that does not fit wraps.
---   int main(void) { int m = -2147483647 - 1; int d = -1; unsigned u = -7; return (m / d == m && m % d == 0) + 2 * (-7
---   / 2 == -3) + 4 * (-7 % 2 == -1) + 8 * (u / 2 == 2147483644u); }
+-- Quotients are rounded toward zero, and the one that does not fit wraps. An assignment divides in the common type of
+-- both sides, and shifts in that of the left one.
+--   int main(void) { int m = -2147483647 - 1; int d = -1; int n = (m / d == m && m % d == 0) + 2 * (-7 / 2 == -3) + 4
+--   * (-7 % 2 == -1); m /= 2u; d >>= 33u; return n + 8 * (m == 1073741824) + 16 * (d == -1); }
 abbrev pub quotients : CProgram
 quotients =
-    main_of (variable Int ∷ variable Int ∷ variable Unsigned ∷ [])
+    main_of (variable Int ∷ variable Int ∷ variable Int ∷ [])
     (starts 0 (e Int (Binary op.Subtract (e Int (Unary unary.Minus (number 2147483647))) (number 1)))
     ∷ starts 1 (e Int (Unary unary.Minus (number 1)))
-    ∷ starts 2 (as_number Unsigned (e Int (Unary unary.Minus (number 7))))
-    ∷ gives
-    (e Int
-    (Binary op.Add
+    ∷ starts 2
     (e Int
     (Binary op.Add
     (e Int
@@ -82,18 +80,21 @@ quotients =
     (e Int
     (Binary op.Multiply (number 4)
     (e Int (Binary op.Equal (e Int (Binary op.Remainder (e Int (Unary unary.Minus (number 7))) (number 2))) (e Int (Unary unary.Minus (number 1)))))))))
+    ∷ does (e Int (Assign assign.Divide (local 0) (e Unsigned (Number 2))))
+    ∷ does (e Int (Assign assign.ShiftRight (local 1) (e Unsigned (Number 33))))
+    ∷ gives
     (e Int
-    (Binary op.Multiply (number 8)
-    (e Int (Binary op.Equal (e Unsigned (Binary op.Divide (named Unsigned 2) (as_number Unsigned (number 2)))) (e Unsigned (Number 2147483644))))))))
+    (Binary op.Add (e Int (Binary op.Add (local 2) (e Int (Binary op.Multiply (number 8) (e Int (Binary op.Equal (local 0) (number 1073741824)))))))
+    (e Int (Binary op.Multiply (number 16) (e Int (Binary op.Equal (local 1) (e Int (Unary unary.Minus (number 1)))))))))
     ∷ [])
 
 abbrev pub Quotients : Type 0
 Quotients = Runs 4 quotients [] 8 (record {
-  ending = Exited 15;
+  ending = Exited 31;
   output = [];
-  nodes = 53;
+  nodes = 65;
   bytes = 0;
-  trail = Line 1 ∷ Line 1 ∷ [];
+  trail = Line 1 ∷ Line 1 ∷ Line 1 ∷ Line 1 ∷ [];
 })
 
 -- A division by zero is reported with the line of its operator.
