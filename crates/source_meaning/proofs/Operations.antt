@@ -34,7 +34,7 @@ use Rattle.source_meaning.specs.Comparisons.{with_sound, comparing, same, within
 use Rattle.source_meaning.specs.Copies.{span, copy, fill, clear, initialize, initialized_with, with_bytes}
 use Rattle.source_meaning.specs.Accounts.{object_of, all_made, entered_at, enter, leave, allocate, allocated_at, free, freed_in, put, get, get_from, library, argument}
 use Rattle.source_meaning.specs.Operators.{move_by, cast, on_two_numbers, unlike, on_binary, step, is_down}
-use Rattle.source_meaning.specs.Laws.{Follows}
+use Rattle.source_meaning.specs.Laws.{Follows, OperationsGrow}
 use Rattle.source_meaning.proofs.Later.{begins_same, stay, follows_same, follows_then, noted_follows, made_follows, ended_follows, all_ended_follows, Leads, goes_leads, ends_leads, leads_then, if_leads, either_leads}
 
 -- operands
@@ -259,3 +259,20 @@ binary_leads structs g site o s line t u v x w = numbers_lead o s line v x w
 pub step_leads : (structs : List CStruct) (g site line : ℕ) (o : StepOperator) (t : CType) (v : Value) (w : World) → Leads w (step structs g site line o t v w)
 step_leads structs g site line o t v w =
     either_leads (is_pointer t) _ _ (move_by_leads g site line (is_down o) _ v (Num 1) w) (number_leads v _ w (λ n. goes_leads _))
+
+pub operations_grow : OperationsGrow
+operations_grow = record {
+  moves = λ g site line d q w. (move_leads g site line d q w).to;
+  loads = λ width q w. (load_leads width q w).to;
+  stores = λ width q v w. (store_leads width q v w).to;
+  equality = λ v x w. (same_leads v x w).to;
+  order = λ o v x w. (ordered_leads o v x w).to;
+  differences = λ size v x w. (elements_lead size v x w).to;
+  truths = λ v w. (truth_leads v w).to;
+  copies = λ g a b line n q r w. (copy_leads g a b line n q r w).to;
+  clears = λ k w. (clear_leads k w).to;
+  initializers = λ k i width v w. (initialize_leads k i width v w).to;
+  libraries = λ g f a b line vs w. (library_leads g f a b line vs w).to;
+  entries = λ g line items w. (enter_leads g line items w).to;
+  returns = leave_follows;
+}

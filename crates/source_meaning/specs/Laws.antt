@@ -1,14 +1,24 @@
 -- What follows from the meaning for all programs: what is told only grows, and objects stay what they are; with more turns a
 -- run that was not cut is the same, and one that was cut goes on from where it was.
-use Rattle.std.specs.Prelude.{◌≡◌, ℕ, ◌≤◌, false, List, [], ◌∷◌, ◌++◌}
+use Rattle.std.specs.Prelude.{◌≡◌, ℕ, ◌≤◌, false, List, [], ◌∷◌, ◌++◌, ℤ}
 use Rattle.bb_words.specs.Answers.{Answer, Goes, Ends}
+use Rattle.bb_words.specs.declared.steps.Width.{Width}
+use Rattle.bb_words.specs.declared.steps.OrderOp.{OrderOp}
+use Rattle.block_layout.specs.Layout.{Item}
+use Rattle.c_typed.specs.declared.typed_expr.LibCall.{LibCall}
 use Rattle.c_typed.specs.TypedTree.{CExpr, CStmt, CLocal, CProgram}
 use Rattle.source_meaning.specs.declared.values.Want.{Want}
+use Rattle.source_meaning.specs.declared.values.Pointer.{Pointer}
 use Rattle.source_meaning.specs.declared.values.Value.{Value}
 use Rattle.source_meaning.specs.declared.values.Ending.{Ending}
 use Rattle.source_meaning.specs.declared.values.Ending.TheVariants.{Exited, Reported, Trapped, Outside, Cut}
 use Rattle.source_meaning.specs.Objects.{Object}
-use Rattle.source_meaning.specs.Worlds.{World}
+use Rattle.source_meaning.specs.Worlds.{World, Does}
+use Rattle.source_meaning.specs.Moves.{move}
+use Rattle.source_meaning.specs.Accesses.{load, store}
+use Rattle.source_meaning.specs.Comparisons.{same, ordered, elements_between, truth}
+use Rattle.source_meaning.specs.Copies.{copy, clear, initialize}
+use Rattle.source_meaning.specs.Accounts.{enter, leave, library}
 use Rattle.source_meaning.specs.States.{State}
 use Rattle.source_meaning.specs.Meaning.{Calls, run, execute}
 use Rattle.source_meaning.specs.Runs.{Outcome, calls, first_world, outcome}
@@ -45,6 +55,26 @@ pub record Follows (w v : World) : Type 0 where
 abbrev pub reached : {E S A : Type 0} → Answer E S A → S
 reached (Goes a s) = s
 reached (Ends e s) = s
+
+-- an operation on the world leads to a later one
+abbrev pub Grows : {A : Type 0} → (World → Does A) → Type 0
+Grows f = (w : World) → Follows w (reached (f w))
+
+-- All operations that programs and their codes share do.
+pub record OperationsGrow : Type 0 where
+  pub moves : (g site line : ℕ) (d : ℤ) (q : Pointer) → Grows (move g site line d q)
+  pub loads : (width : Width) (q : Pointer) → Grows (load width q)
+  pub stores : (width : Width) (q : Pointer) (v : Value) → Grows (store width q v)
+  pub equality : (v x : Value) → Grows (same v x)
+  pub order : (o : OrderOp) (v x : Value) → Grows (ordered o v x)
+  pub differences : (size : ℕ) (v x : Value) → Grows (elements_between size v x)
+  pub truths : (v : Value) → Grows (truth v)
+  pub copies : (g site_source site_target line n : ℕ) (target source : Pointer) → Grows (copy g site_source site_target line n target source)
+  pub clears : (k : ℕ) → Grows (clear k)
+  pub initializers : (k i : ℕ) (width : Width) (v : Value) → Grows (initialize k i width v)
+  pub libraries : (g : ℕ) (f : LibCall) (a b line : ℕ) (vs : List Value) → Grows (library g f a b line vs)
+  pub entries : (g line : ℕ) (items : List Item) → Grows (enter g line items)
+  pub returns : (items : List Item) (caller w : World) → Follows w (leave items caller w)
 
 -- every call leads to a later world
 abbrev pub CallsGrow : Calls → Type 0
