@@ -3,11 +3,15 @@ use Rattle.std.proofs.Common.{refl}
 use Rattle.bb_words.specs.Answers.{and_then}
 use Rattle.size_table.specs.Pads.{exponent_of}
 use Rattle.block_layout.specs.Layout.{layout}
-use Rattle.source_meaning.specs.ExamplesMemory.{LittleEndian, MarkedBeforeMisaligned, MarkedAtThePadding, MisalignedBeforePadding, Padding, PointersInPieces, PartsOutOfOrder, Forged, PartsAreNoNumbers, DeadMayBeKept, DeadIsNotCompared, DeadIsNotTested, DeadBeforeAcross, Apart, Across, Difference}
+use Rattle.source_meaning.specs.ExamplesMemory.{LittleEndian, Globals, MarkedBeforeMisaligned, MarkedAtThePadding, MisalignedBeforePadding, Padding, PointersInPieces, PartsOutOfOrder, Forged, PartsAreNoNumbers, DeadMayBeKept, DeadIsNotCompared, DeadIsNotTested, DeadBeforeAcross, Apart, Across, Difference}
 
 pub little_endian : LittleEndian
 unfolding and_then layout exponent_of
 little_endian = refl
+
+pub globals : Globals
+unfolding and_then layout exponent_of
+globals = refl
 
 pub marked_before_misaligned : MarkedBeforeMisaligned
 unfolding and_then layout exponent_of

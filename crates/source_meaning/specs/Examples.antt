@@ -1,4 +1,5 @@
--- How the examples of runs are written: short names for the parts of typed programs, and what is told of a run.
+-- How the examples of runs are written: short names for the parts of typed programs, and what is told of a run. The C text
+-- of each program stands above it; all of it is line 1, but where its lines are numbered.
 use Rattle.std.specs.Prelude.{◌≡◌, ℕ, ◌-◌, Bool, true, false, List, [], ◌∷◌, map, Some, None, ℤ, negsuc}
 use Rattle.c_words.specs.declared.place.At.{At}
 use Rattle.c_typed.specs.declared.typed.InitialByte.{InitialByte}

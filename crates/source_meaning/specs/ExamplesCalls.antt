@@ -143,7 +143,7 @@ PlaceIsReadLast = Runs 4 place_is_read_last [] 8 (record {
 
 -- `&&`, `||`, `?:` and the comma leave out what is not selected, and all operands go from left to right.
 --   int g(int c) { putchar(c); return c; } int h(int a, int b) { return a * 10 + b; } int main(void) { int a[2];
---   a[g(0)] = g(1); g(2) && g(0) || g(3); g(0) ? g(4) : g(5); return g(6), h(g(7), g(8)); }
+--   a[g(0)] = g(1); g(0) && g(9) || g(3) && g(0); g(2) || g(9); g(0) ? g(9) : g(5); return g(6), h(g(7), g(8)); }
 abbrev pub choices : CProgram
 choices =
     program [] [] []
@@ -156,11 +156,12 @@ choices =
     ∷ does (set (e Int (Index (array Int 2 0) (e Int (Call (Defined 0) (given (number 0 ∷ [])))))) (e Int (Call (Defined 0) (given (number 1 ∷ [])))))
     ∷ does
     (e Int
-    (Binary op.LogicalOr (e Int (Binary op.LogicalAnd (e Int (Call (Defined 0) (given (number 2 ∷ [])))) (e Int (Call (Defined 0) (given (number 0 ∷ []))))))
-    (e Int (Call (Defined 0) (given (number 3 ∷ []))))))
+    (Binary op.LogicalOr (e Int (Binary op.LogicalAnd (e Int (Call (Defined 0) (given (number 0 ∷ [])))) (e Int (Call (Defined 0) (given (number 9 ∷ []))))))
+    (e Int (Binary op.LogicalAnd (e Int (Call (Defined 0) (given (number 3 ∷ [])))) (e Int (Call (Defined 0) (given (number 0 ∷ []))))))))
+    ∷ does (e Int (Binary op.LogicalOr (e Int (Call (Defined 0) (given (number 2 ∷ [])))) (e Int (Call (Defined 0) (given (number 9 ∷ []))))))
     ∷ does
     (e Int
-    (Conditional (e Int (Call (Defined 0) (given (number 0 ∷ [])))) (e Int (Call (Defined 0) (given (number 4 ∷ [])))) (e Int (Call (Defined 0) (given (number 5 ∷ []))))))
+    (Conditional (e Int (Call (Defined 0) (given (number 0 ∷ [])))) (e Int (Call (Defined 0) (given (number 9 ∷ [])))) (e Int (Call (Defined 0) (given (number 5 ∷ []))))))
     ∷ gives
     (e Int
     (Comma (e Int (Call (Defined 0) (given (number 6 ∷ []))))
@@ -172,12 +173,12 @@ choices =
 abbrev pub Choices : Type 0
 Choices = Runs 4 choices [] 8 (record {
   ending = Exited 78;
-  output = 0 ∷ 1 ∷ 2 ∷ 0 ∷ 3 ∷ 0 ∷ 5 ∷ 6 ∷ 7 ∷ 8 ∷ [];
-  nodes = 125;
+  output = 0 ∷ 1 ∷ 0 ∷ 3 ∷ 0 ∷ 2 ∷ 0 ∷ 5 ∷ 6 ∷ 7 ∷ 8 ∷ [];
+  nodes = 138;
   bytes = 0;
   trail = Line 1 ∷ Line 1 ∷ Line 1 ∷ Line 1 ∷ Line 1 ∷ Moved 0 (at 0 (pos 0)) (at 0 (pos 0)) ∷ Line 1 ∷ Line 1 ∷ Line 1 ∷ Line 1 ∷ Line 1 ∷ Line 1 ∷ Line 1 ∷ Line 1 ∷ Line 1 ∷ Line 1 ∷ Line 1
       ∷ Line 1 ∷ Line 1 ∷ Line 1 ∷ Line 1 ∷ Line 1 ∷ Line 1 ∷ Line 1 ∷ Line 1 ∷ Line 1 ∷ Line 1 ∷ Line 1 ∷ Line 1 ∷ Line 1 ∷ Line 1 ∷ Line 1 ∷ Line 1 ∷ Line 1 ∷ Line 1 ∷ Line 1 ∷ Line 1
-      ∷ Line 1 ∷ [];
+      ∷ Line 1 ∷ Line 1 ∷ Line 1 ∷ Line 1 ∷ Line 1 ∷ [];
 })
 
 -- `continue` goes to the step of `for`, and to the condition of `do`; `break` and `return` leave.

@@ -3,11 +3,14 @@ use Rattle.std.specs.Prelude.{[], ◌∷◌, pos}
 use Rattle.bb_words.specs.declared.kinds.TrapKind.TheVariants as trap
 use Rattle.c_words.specs.declared.operators.UnaryOperator.TheVariants as unary
 use Rattle.c_words.specs.declared.operators.BinaryOperator.TheVariants as op
+use Rattle.c_words.specs.declared.operators.AssignOperator.TheVariants as assign
+use Rattle.c_typed.specs.declared.typed.InitialByte.TheVariants as initial
+use Rattle.c_typed.specs.declared.typed.GlobalObject.TheVariants as object
 use Rattle.c_typed.specs.declared.typed_expr.Called.TheVariants.{Defined, Library}
 use Rattle.c_typed.specs.declared.typed_expr.LibCall.TheVariants as lib
 use Rattle.c_typed.specs.declared.typed_expr.Conversion.TheVariants as conversion
 use Rattle.c_typed.specs.Types.CType.{Void, Char, Int, Unsigned, Pointer, Array}
-use Rattle.c_typed.specs.TypedTree.CForm.{Global, Convert, Index, Call, Unary, Binary, Cast}
+use Rattle.c_typed.specs.TypedTree.CForm.{Global, Convert, Index, Call, Unary, Binary, Assign, Cast}
 use Rattle.c_typed.specs.TypedTree.CStmt.{Block, If}
 use Rattle.source_meaning.specs.declared.values.OutsideCause.TheVariants as outside
 use Rattle.source_meaning.specs.declared.values.Ending.TheVariants.{Exited, Trapped, Outside}
@@ -43,6 +46,53 @@ LittleEndian = Runs 4 little_endian [] 8 (record {
   bytes = 0;
   trail = Line 1 ∷ Line 1 ∷ Moved 0 (at 0 (pos 0)) (at 0 (pos 0)) ∷ Line 1 ∷ Moved 1 (at 0 (pos 0)) (at 0 (pos 4)) ∷ Line 1 ∷ Moved 2 (at 0 (pos 0)) (at 0 (pos 5)) ∷ Line 1
       ∷ Moved 3 (at 0 (pos 0)) (at 0 (pos 0)) ∷ Moved 4 (at 0 (pos 0)) (at 0 (pos 3)) ∷ Moved 5 (at 0 (pos 0)) (at 0 (pos 4)) ∷ [];
+})
+
+-- Global objects hold at first what their initializers say, and strings are objects that end with a zero.
+--   int z = 258; char *s = "xy"; int *p[2] = { 0, &z }; int main(void) { *p[1] += 1; return z + s[1] + s[2] + (p[0] ==
+--   0); }
+abbrev pub globals : CProgram
+globals =
+    program []
+    (global Int 4 (initial.Byte 2 ∷ initial.Byte 1 ∷ [])
+    ∷ global (Pointer Char) 4
+    (initial.PointerPart (object.Text 0) 0 ∷ initial.PointerPart (object.Text 0) 1 ∷ initial.PointerPart (object.Text 0) 2 ∷ initial.PointerPart (object.Text 0) 3 ∷ [])
+    ∷ global (Array (Pointer Int) 2) 8
+    (initial.Byte 0 ∷ initial.Byte 0 ∷ initial.Byte 0 ∷ initial.Byte 0 ∷ initial.PointerPart (object.Named 0) 0 ∷ initial.PointerPart (object.Named 0) 1
+    ∷ initial.PointerPart (object.Named 0) 2 ∷ initial.PointerPart (object.Named 0) 3 ∷ [])
+    ∷ [])
+    ((120 ∷ 121 ∷ []) ∷ [])
+    (function 1 Int 0 []
+    (Block here
+    (block
+    (does
+    (e Int
+    (Assign assign.Add
+    (e Int
+    (Unary unary.Dereference
+    (e (Pointer Int) (Index (e (Pointer (Pointer Int)) (Convert conversion.ArrayToPointer (e (Array (Pointer Int) 2) (Global 2)))) (number 1)))))
+    (number 1)))
+    ∷ gives
+    (e Int
+    (Binary op.Add
+    (e Int
+    (Binary op.Add (e Int (Binary op.Add (e Int (Global 0)) (as_number Int (e Char (Index (e (Pointer Char) (Global 1)) (number 1))))))
+    (as_number Int (e Char (Index (e (Pointer Char) (Global 1)) (number 2))))))
+    (e Int
+    (Binary op.Equal (e (Pointer Int) (Index (e (Pointer (Pointer Int)) (Convert conversion.ArrayToPointer (e (Array (Pointer Int) 2) (Global 2)))) (number 0)))
+    (e (Pointer Int) (Convert conversion.NullToPointer (number 0)))))))
+    ∷ [])))
+    ∷ [])
+    0
+
+abbrev pub Globals : Type 0
+Globals = Runs 4 globals [] 8 (record {
+  ending = Exited 381;
+  output = [];
+  nodes = 25;
+  bytes = 0;
+  trail = Line 1 ∷ Line 1 ∷ Moved 0 (at 2 (pos 0)) (at 2 (pos 4)) ∷ Line 1 ∷ Moved 1 (at 3 (pos 0)) (at 3 (pos 1)) ∷ Moved 2 (at 3 (pos 0)) (at 3 (pos 2)) ∷ Moved 3 (at 2 (pos 0)) (at 2 (pos 0))
+      ∷ [];
 })
 
 -- A pointer outside of its block traps as such, be it misaligned or not.

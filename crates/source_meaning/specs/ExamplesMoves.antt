@@ -5,14 +5,15 @@ use Rattle.c_words.specs.declared.operators.UnaryOperator.TheVariants as unary
 use Rattle.c_words.specs.declared.operators.StepOperator.TheVariants as step
 use Rattle.c_words.specs.declared.operators.BinaryOperator.TheVariants as op
 use Rattle.c_words.specs.declared.operators.AssignOperator.TheVariants as assign
+use Rattle.c_typed.specs.declared.typed_expr.Called.TheVariants.{Defined}
 use Rattle.c_typed.specs.declared.typed_expr.Conversion.TheVariants as conversion
 use Rattle.c_typed.specs.Types.CType.{Char, Int, Struct, Pointer, Array}
 use Rattle.c_typed.specs.TypedTree.{CStart, CProgram}
-use Rattle.c_typed.specs.TypedTree.CForm.{Local, Number, Convert, Index, Member, Arrow, StepBefore, StepAfter, Unary, Binary, Assign}
+use Rattle.c_typed.specs.TypedTree.CForm.{Local, Number, Convert, Index, Call, Member, Arrow, StepBefore, StepAfter, Unary, Binary, Assign}
 use Rattle.c_typed.specs.TypedTree.CStmt.{Block, Declare, Eval, Do, For, Return}
 use Rattle.source_meaning.specs.declared.values.Ending.TheVariants.{Exited, Reported}
 use Rattle.source_meaning.specs.Worlds.Mark.{Line, Moved}
-use Rattle.source_meaning.specs.Examples.{on, here, e_on, e, number, local, named, array, as_number, set, does, gives, declared, starts, declares, block, variable, in_memory, function, member, struct, program, main_of, below, at, Runs}
+use Rattle.source_meaning.specs.Examples.{on, here, e_on, e, number, local, named, array, as_number, set, does, gives, declared, starts, given, declares, block, variable, in_memory, function, member, struct, program, main_of, below, at, Runs}
 
 -- The last places on both sides of 16 bytes are 23 and -8; an index, `+`, `+=` and `--` lead there.
 --   int main(void) { char a[16]; char *p; p = a + 23; p = &a[-8]; p += 31; p--; return p - a; }
@@ -124,13 +125,15 @@ WideSlotsBelow = Runs 5 wide_slots_below [] 8 (record {
   trail = Line 1 ∷ Moved 0 (at 0 (pos 0)) (at 0 (below 16)) ∷ Line 1 ∷ [];
 })
 
--- A member is reached by a move, but not the one that lies at offset 0.
---   struct s { int a; int b; char c[6]; }; int main(void) { struct s v; struct s *p = &v; v.b = 3; p->a = 4; p->c[2] =
---   v.b + p->a; return v.c[2]; }
+-- A member is reached by a move, but not the one that lies at offset 0. The moves of the first function have the first
+-- numbers.
+--   struct s { int a; int b; char c[6]; }; int g(char *q) { return q[2]; } int main(void) { struct s v; struct s *p =
+--   &v; v.b = 3; p->a = 4; p->c[2] = v.b + p->a; return g(v.c); }
 abbrev pub members : CProgram
 members =
     program (struct 16 4 (member Int 0 ∷ member Int 4 ∷ member (Array Char 6) 8 ∷ []) ∷ []) [] []
-    (function 1 Int 0 (in_memory (Struct 0) 16 ∷ variable (Pointer (Struct 0)) ∷ [])
+    (function 1 Int 1 (variable (Pointer Char) ∷ []) (Block here (block (gives (as_number Int (e Char (Index (named (Pointer Char) 0) (number 2)))) ∷ [])))
+    ∷ function 1 Int 0 (in_memory (Struct 0) 16 ∷ variable (Pointer (Struct 0)) ∷ [])
     (Block here
     (block
     (declared 0
@@ -140,19 +143,19 @@ members =
     ∷ does
     (set (e Char (Index (e (Pointer Char) (Convert conversion.ArrayToPointer (e (Array Char 6) (Arrow (named (Pointer (Struct 0)) 1) 2)))) (number 2)))
     (as_number Char (e Int (Binary op.Add (e Int (Member (named (Struct 0) 0) 1)) (e Int (Arrow (named (Pointer (Struct 0)) 1) 0))))))
-    ∷ gives (as_number Int (e Char (Index (e (Pointer Char) (Convert conversion.ArrayToPointer (e (Array Char 6) (Member (named (Struct 0) 0) 2)))) (number 2))))
+    ∷ gives (e Int (Call (Defined 0) (given (e (Pointer Char) (Convert conversion.ArrayToPointer (e (Array Char 6) (Member (named (Struct 0) 0) 2))) ∷ []))))
     ∷ [])))
     ∷ [])
-    0
+    1
 
 abbrev pub Members : Type 0
 Members = Runs 4 members [] 8 (record {
   ending = Exited 7;
   output = [];
-  nodes = 32;
+  nodes = 38;
   bytes = 0;
-  trail = Line 1 ∷ Line 1 ∷ Moved 0 (at 0 (pos 0)) (at 0 (pos 4)) ∷ Line 1 ∷ Line 1 ∷ Moved 1 (at 0 (pos 0)) (at 0 (pos 8)) ∷ Moved 2 (at 0 (pos 8)) (at 0 (pos 10))
-      ∷ Moved 3 (at 0 (pos 0)) (at 0 (pos 4)) ∷ Line 1 ∷ Moved 4 (at 0 (pos 0)) (at 0 (pos 8)) ∷ Moved 5 (at 0 (pos 8)) (at 0 (pos 10)) ∷ [];
+  trail = Line 1 ∷ Line 1 ∷ Moved 1 (at 0 (pos 0)) (at 0 (pos 4)) ∷ Line 1 ∷ Line 1 ∷ Moved 2 (at 0 (pos 0)) (at 0 (pos 8)) ∷ Moved 3 (at 0 (pos 8)) (at 0 (pos 10))
+      ∷ Moved 4 (at 0 (pos 0)) (at 0 (pos 4)) ∷ Line 1 ∷ Moved 5 (at 0 (pos 0)) (at 0 (pos 8)) ∷ Line 1 ∷ Line 1 ∷ Moved 0 (at 0 (pos 8)) (at 0 (pos 10)) ∷ [];
 })
 
 -- The distance of an index wraps: 0x40000000 ints are no bytes at all.

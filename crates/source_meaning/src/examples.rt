@@ -1,7 +1,7 @@
 //! Small programs, and what the meaning gives for them: their ends, their output, what they count and what they leave
 //! behind. What is expected was worked out apart from the definitions.
 ghost use Rattle.source_meaning.specs.ExamplesMoves.{WithinReach, PastTheEnd, BelowTheStart, WideSlotsAbove, WideSlotsBelow, Members, WrappedDistance, NullDoesNotMove, SitesInOrder};
-ghost use Rattle.source_meaning.specs.ExamplesMemory.{LittleEndian, MarkedBeforeMisaligned, MarkedAtThePadding, MisalignedBeforePadding, Padding, PointersInPieces, PartsOutOfOrder, Forged, PartsAreNoNumbers, DeadMayBeKept, DeadIsNotCompared, DeadIsNotTested, DeadBeforeAcross, Apart, Across, Difference};
+ghost use Rattle.source_meaning.specs.ExamplesMemory.{LittleEndian, Globals, MarkedBeforeMisaligned, MarkedAtThePadding, MisalignedBeforePadding, Padding, PointersInPieces, PartsOutOfOrder, Forged, PartsAreNoNumbers, DeadMayBeKept, DeadIsNotCompared, DeadIsNotTested, DeadBeforeAcross, Apart, Across, Difference};
 ghost use Rattle.source_meaning.specs.ExamplesCopies.{StructsAreCopied, SourceFirst, ShortTarget, Upwards, Sets, SpanPastTheLength, TooLong, BracesClear, StructParts, Strings};
 ghost use Rattle.source_meaning.specs.ExamplesCalls.{Conversions, Quotients, DivisionByZero, PlaceIsReadLast, Choices, Jumps, WhileIsCut, DoIsNotCut, DoIsCut, CallIsCut, CutBeforeStack, StackIsFull, Echo, HeapIsReused, BadFree, FreedTwice};
 ghost use Rattle.source_meaning.specs.ExamplesAccounts.{Layout, RoundedFrame, WideLayout, DepthIsReported};
@@ -22,6 +22,7 @@ pub fn moves_run()
 /// Bytes, words and pointers are read, written and compared as they should be.
 pub fn memory_run()
     ensures little_endian { LittleEndian }
+    ensures globals { Globals }
     ensures marked_before_misaligned { MarkedBeforeMisaligned }
     ensures marked_at_the_padding { MarkedAtThePadding }
     ensures misaligned_before_padding { MisalignedBeforePadding }
