@@ -7,9 +7,9 @@ use Rattle.c_words.specs.declared.operators.BinaryOperator.TheVariants as op
 use Rattle.c_words.specs.declared.operators.AssignOperator.TheVariants as assign
 use Rattle.c_typed.specs.declared.typed_expr.Called.TheVariants.{Defined}
 use Rattle.c_typed.specs.declared.typed_expr.Conversion.TheVariants as conversion
-use Rattle.c_typed.specs.Types.CType.{Char, Int, Struct, Pointer, Array}
+use Rattle.c_typed.specs.Types.CType.{Char, Int, Unsigned, Struct, Pointer, Array}
 use Rattle.c_typed.specs.TypedTree.{CStart, CProgram}
-use Rattle.c_typed.specs.TypedTree.CForm.{Local, Number, Convert, Index, Call, Member, Arrow, StepBefore, StepAfter, Unary, Binary, Assign}
+use Rattle.c_typed.specs.TypedTree.CForm.{Local, Number, Convert, Index, Call, Member, Arrow, StepBefore, StepAfter, Unary, Binary, Assign, SizeofExpression}
 use Rattle.c_typed.specs.TypedTree.CStmt.{Block, Declare, Eval, Do, For, Return}
 use Rattle.source_meaning.specs.declared.values.Ending.TheVariants.{Exited, Reported}
 use Rattle.source_meaning.specs.Worlds.Mark.{Line, Moved}
@@ -191,9 +191,10 @@ NullDoesNotMove = Runs 4 null_does_not_move [] 8 (record {
   trail = Line 1 ∷ Line 1 ∷ [];
 })
 
--- The numbers of moves follow the text: in `for` the step comes before the body, in `do` the body before the condition.
+-- The numbers of moves follow the text: in `for` the step comes before the body, in `do` the body before the condition;
+-- what `sizeof` measures has none.
 --   int main(void) { int a[9]; int i; int *p = a; for (i = 0; a[i] == 0 && i < 1; a[i + 1] = i++) a[i + 4] = 5; do
---   *p++ = 1; while (p[1]); return *(a + 4); }
+--   *p++ = 1; while (p[1]); return sizeof a[1] + *(a + 4); }
 abbrev pub sites_in_order : CProgram
 sites_in_order =
     main_of (in_memory (Array Int 9) 36 ∷ variable Int ∷ variable (Pointer Int) ∷ [])
@@ -206,14 +207,18 @@ sites_in_order =
     (does (set (e Int (Index (array Int 9 0) (e Int (Binary op.Add (local 1) (number 4))))) (number 5)))
     ∷ Do here (does (set (e Int (Unary unary.Dereference (e (Pointer Int) (StepAfter step.Increment (named (Pointer Int) 2))))) (number 1)))
     (e Int (Index (named (Pointer Int) 2) (number 1)))
-    ∷ gives (e Int (Unary unary.Dereference (e (Pointer Int) (Binary op.Add (array Int 9 0) (number 4)))))
+    ∷ gives
+    (as_number Int
+    (e Unsigned
+    (Binary op.Add (e Unsigned (SizeofExpression (e Int (Index (array Int 9 0) (number 1)))))
+    (as_number Unsigned (e Int (Unary unary.Dereference (e (Pointer Int) (Binary op.Add (array Int 9 0) (number 4)))))))))
     ∷ [])
 
 abbrev pub SitesInOrder : Type 0
 SitesInOrder = Runs 4 sites_in_order [] 8 (record {
-  ending = Exited 5;
+  ending = Exited 9;
   output = [];
-  nodes = 59;
+  nodes = 61;
   bytes = 0;
   trail = Line 1 ∷ Line 1 ∷ Moved 0 (at 0 (pos 0)) (at 0 (pos 0)) ∷ Line 1 ∷ Moved 2 (at 0 (pos 0)) (at 0 (pos 16)) ∷ Moved 1 (at 0 (pos 0)) (at 0 (pos 4)) ∷ Moved 0 (at 0 (pos 0)) (at 0 (pos 4))
       ∷ Line 1 ∷ Line 1 ∷ Moved 3 (at 0 (pos 0)) (at 0 (pos 4)) ∷ Moved 4 (at 0 (pos 4)) (at 0 (pos 8)) ∷ Line 1 ∷ Moved 5 (at 0 (pos 0)) (at 0 (pos 16)) ∷ [];
