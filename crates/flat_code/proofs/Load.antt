@@ -1,9 +1,9 @@
 -- The load sequence loads a word that is null or belongs to a block, and reports any other.
-use Rattle.std.proofs.Common.{◌≡◌, ◌≢◌, ◌⊎◌, ℕ, zero, suc, ◌+◌, ◌-◌, ◌%◌, ◌^◌, ◌<◌, ◌≤◌, List, [], ◌∷◌, ◌++◌, Option, Some, None, inl, inr, Bool, true, false, cond, refl, sym, ap, ◌∙◌, subst, arith, nat_lt, nat_le}
+use Rattle.std.proofs.Common.{◌≡◌, ℕ, zero, suc, ◌+◌, ◌-◌, ◌^◌, ◌<◌, ◌≤◌, [], ◌∷◌, Option, Some, None, Bool, true, false, cond, refl, sym, ap, ◌∙◌, subst, arith, nat_lt}
 use Rattle.std.specs.Prelude.{◌==◌, ◌&&◌, ◌||◌, not}
 use Rattle.std.proofs.Math.Dec.{eqb-suc-zero}
 use Rattle.std.proofs.Math.Pow.{pow_mono}
-use Rattle.std.proofs.lemmas.Bool.Decides.{nat_tests, eqb_tells}
+use Rattle.std.proofs.lemmas.Bool.Decides.{nat_tests}
 use Rattle.bb_words.specs.Answers.{Answer, and_then}
 use Rattle.bb_words.specs.Numbers.{all_ones}
 use Rattle.bb_words.specs.Steps.{arith as arith_of}
@@ -12,13 +12,12 @@ use Rattle.bb_words.specs.declared.steps.ArithOp.TheVariants as op
 use Rattle.bb_words.specs.declared.steps.Width.TheVariants as width
 use Rattle.marked_ptr.specs.Marked.{owner_slot}
 use Rattle.size_table.specs.Table.{byte_of}
-use Rattle.flat_code.specs.Code.{FSteps, none, more, steps}
-use Rattle.flat_code.specs.Code.FStep.{Number, Arith, If, Slot, Look, Load, Report}
-use Rattle.flat_code.specs.Told.{Tell}
-use Rattle.flat_code.specs.World.{Words, with_word, read, FWorld, FPoint, point, spend, tell, choose, Ending, Run, Way, onward}
-use Rattle.flat_code.specs.Run.{goes, Calls, refusal, unless_refused, loaded, act, act_all, slot_word, slot_or_ones}
-use Rattle.flat_code.specs.Sequences.{report, owned_steps, load_sequence, LoadApart, KeptBut, load_time, is_held, may_be_loaded, accessed, WasLoaded, WasRefused, DoesLoad}
-use Rattle.flat_code.specs.Laws.{LoadSequenceLoads}
+use Rattle.flat_code.specs.Code.{FSteps, none, steps}
+use Rattle.flat_code.specs.Code.FStep.{If, Look}
+use Rattle.flat_code.specs.World.{Words, with_word, read, FWorld, FPoint, point, spend, choose, Ending, Run, Way, onward}
+use Rattle.flat_code.specs.Run.{goes, Calls, refusal, unless_refused, loaded, act_all, slot_word, slot_or_ones}
+use Rattle.flat_code.specs.Sequences.{report, owned_steps, load_sequence, LoadApart, KeptBut, load_time, is_held, may_be_loaded, accessed, DoesLoad}
+use Rattle.flat_code.specs.Laws.{LoadSequenceLoads, LoadSequenceStops}
 use Rattle.flat_code.proofs.Words.{set_same, set_other, takes_first, takes_second, arith_is}
 
 module _ (g : ℕ) (call : Calls) (m frame w at line s e : ℕ) (apart : LoadApart w line s e) (u : FPoint) where
@@ -201,3 +200,8 @@ module _ (g : ℕ) (call : Calls) (m frame w at line s e : ℕ) (apart : LoadApa
 
 pub load_sequence_loads : LoadSequenceLoads
 load_sequence_loads g low call m frame w at line s e apart u address = load_does g call m frame w at line s e apart u low address
+
+pub load_sequence_stops : LoadSequenceStops
+unfolding and_then
+load_sequence_stops g call m frame w at line s e u ending h =
+    ap (λ o. and_then (unless_refused o (λ t. goes (loaded w (u.words at) width.Pointer t)) (point u.words (spend 3 u.world))) (λ way t. onward way t (act_all g call m frame (steps (If w (owned_steps g w line s e) none ∷ []))))) h

@@ -1,5 +1,5 @@
 -- The span sequence touches the first byte of a range, moves to the last, and touches it.
-use Rattle.std.proofs.Common.{◌≡◌, ◌≢◌, ℕ, zero, suc, ◌+◌, ◌-◌, ◌%◌, ◌^◌, ◌<◌, ◌≤◌, List, [], ◌∷◌, ◌++◌, Option, Some, None, Bool, true, false, cond, refl, sym, ap, ◌∙◌, subst, arith, nat_lt, nat_le}
+use Rattle.std.proofs.Common.{◌≡◌, ◌≢◌, ℕ, ◌+◌, ◌-◌, ◌%◌, ◌^◌, ◌<◌, ◌≤◌, [], ◌∷◌, Option, Some, None, Bool, true, false, cond, refl, sym, ap, ◌∙◌, subst, arith, nat_lt}
 use Rattle.std.specs.Prelude.{◌==◌}
 use Rattle.std.proofs.lemmas.Bool.Decides.{nat_tests}
 use Rattle.bb_words.specs.Answers.{Answer, and_then}
@@ -17,9 +17,9 @@ use Rattle.flat_code.specs.Code.FStep.{Number, Arith, If, Load}
 use Rattle.flat_code.specs.Told.{Tell}
 use Rattle.flat_code.specs.World.{Words, with_word, read, FWorld, FPoint, point, spend, tell, choose, Ending, Run, Way, onward}
 use Rattle.flat_code.specs.Time.{charge}
-use Rattle.flat_code.specs.Run.{goes, ends, refusal, unless_refused, loaded, Calls, act, act_all}
-use Rattle.flat_code.specs.Sequences.{report, move_sequence, touch_steps, span_sequence, SpanApart, KeptBut, accessed, WentOn, WasReported, DoesMove, move_time, span_begin, span_time, SpanKept, first_touched, SpanWent, SpanStopped, SpanReported, LastTouched, DoesSpan}
-use Rattle.flat_code.specs.Laws.{Spans, SpanSequenceSpans}
+use Rattle.flat_code.specs.Run.{goes, refusal, unless_refused, loaded, Calls, act, act_all}
+use Rattle.flat_code.specs.Sequences.{report, move_sequence, touch_steps, span_sequence, SpanApart, accessed, WentOn, DoesMove, move_time, span_begin, SpanKept, first_touched, LastTouched, DoesSpan}
+use Rattle.flat_code.specs.Laws.{Spans}
 use Rattle.flat_code.proofs.Words.{set_same, set_other, arith_is, takes_first, takes_second}
 use Rattle.flat_code.proofs.Move.{move_does}
 

@@ -9,3 +9,5 @@ pub mod Sequences
 pub mod Laws
 pub mod Recognized
 pub mod Weight
+pub mod Examples
+pub mod Safety

@@ -8,12 +8,13 @@ use Rattle.bb_words.specs.declared.kinds.ReportKind.TheVariants as report
 use Rattle.bb_words.specs.declared.kinds.TrapKind.TheVariants as trap
 use Rattle.bb_words.specs.declared.steps.Width.{Width}
 use Rattle.marked_ptr.specs.Marked.{owner_slot}
+use Rattle.size_table.specs.declared.memory_map.TheConstants.{TEXT_START, TABLE_START, GLOBALS_START, STACK_START, HEAP_START, MEMORY_END, MOST_CALLS}
 use Rattle.size_table.specs.Blocks.{Block}
 use Rattle.size_table.specs.Table.{byte_of}
 use Rattle.flat_code.specs.Code.{FStep, FSteps, FFunction, FCode}
 use Rattle.flat_code.specs.Told.{Tell}
-use Rattle.flat_code.specs.World.{Memory, with_bytes, bytes_of, read, arguments, FWorld, FPoint, point, put, spend, tell, choose, Ending, Run, Way, onward, out_of, again}
-use Rattle.flat_code.specs.Accounts.{stack_under, stack_limit, most_calls, enter, leave, malloc, free}
+use Rattle.flat_code.specs.World.{Memory, with_bytes, bytes_of, read, arguments, FPoint, point, put, spend, tell, choose, Ending, Run, Way, onward, out_of, again}
+use Rattle.flat_code.specs.Accounts.{stack_under, enter, leave, malloc, free}
 use Rattle.flat_code.specs.Time.{charge, turn_charge, call_charge, start_charge}
 
 abbrev pub goes : FPoint → Run Way
@@ -38,10 +39,10 @@ slot_word g word = slot_or_ones (owner_slot g word)
 -- multiple of its size, in this order. Past the end and in the text it has no meaning.
 abbrev pub refusal : (at size : ℕ) → Option Ending
 refusal at size =
-    if nat_lt at 0x1000 then Some (Ending.Trapped trap.Null)
+    if nat_lt at TEXT_START then Some (Ending.Trapped trap.Null)
     else if nat_le (2 ^ 31) at then Some (Ending.Trapped trap.Marked)
-    else if nat_le 0x2000000 at then Some Ending.Cut
-    else if nat_lt at 0x200000 then Some Ending.Cut
+    else if nat_le MEMORY_END at then Some Ending.Cut
+    else if nat_lt at TABLE_START then Some Ending.Cut
     else if at % size == 0 then None
     else Some (Ending.Trapped trap.Misaligned)
 
@@ -145,7 +146,7 @@ body_with body args u =
 -- a call with its frame, where it fits on the data stack
 abbrev pub framed : (g line : ℕ) → (body : FPoint → Run Way) → (args : List ℕ) → (frame : List ℕ) → FPoint → Run ℕ
 framed g line body args es u =
-    choose (nat_lt (stack_under g u.world.stack es) stack_limit) (ends (Ending.Reported report.Stack line))
+    choose (nat_lt (stack_under g u.world.stack es) STACK_START) (ends (Ending.Reported report.Stack line))
     (λ t. and_then (body_with body args (point t.words (enter (stack_under g t.world.stack es) es t.world)))
     (λ word s. Answer.Goes word (point s.words (leave es t.world s.world)))) u
 
@@ -155,7 +156,7 @@ framed_if g line body args (Some es) u = framed g line body args es u
 
 -- a call, unless too many are live
 abbrev pub counted : (line : ℕ) → (FPoint → Run ℕ) → FPoint → Run ℕ
-counted line go u = choose (nat_le most_calls u.world.depth) (ends (Ending.Reported report.Depth line)) go u
+counted line go u = choose (nat_le MOST_CALLS u.world.depth) (ends (Ending.Reported report.Depth line)) go u
 
 -- no function is called
 abbrev pub no_calls : Calls
@@ -188,15 +189,15 @@ module _ (g : ℕ) (frames : List (List ℕ)) (m : ℕ) where
 
 -- ---- Programs
 
--- the memory at the start: the code's bytes from 0xA00000 on, and zero elsewhere
+-- the memory at the start: the code's bytes from the start of the globals on, and zero elsewhere
 abbrev pub start_memory : List ℕ → Memory
-start_memory initial at = if nat_lt at 0xA00000 then 0 else slice_index initial (at - 0xA00000)
+start_memory initial at = if nat_lt at GLOBALS_START then 0 else slice_index initial (at - GLOBALS_START)
 
 -- the world before the first step: the blocks of the global objects live, no call is entered, and the stack number is the
 -- upper end of the data stack
 abbrev pub start : (initial : List ℕ) → (globals : List Block) → (input : List ℕ) → FPoint
 start initial globals input =
-    point (arguments []) (record { memory = start_memory initial; live = globals; depth = 0; stack = 0x1000000; input = input; told = []; time = start_charge })
+    point (arguments []) (record { memory = start_memory initial; live = globals; depth = 0; stack = HEAP_START; input = input; told = []; time = start_charge })
 
 abbrev pub exited : (word : ℕ) → FPoint → Run (Unit {0})
 exited word u = ends (Ending.Exited word) u
