@@ -3,7 +3,7 @@ use Rattle.std.proofs.Common.{refl}
 use Rattle.bb_words.specs.Answers.{and_then}
 use Rattle.size_table.specs.Pads.{exponent_of}
 use Rattle.block_layout.specs.Layout.{layout}
-use Rattle.source_meaning.specs.ExamplesMoves.{WithinReach, PastTheEnd, BelowTheStart, WideSlotsAbove, WideSlotsBelow, Members, WrappedDistance, NullDoesNotMove, SitesInOrder}
+use Rattle.source_meaning.specs.ExamplesMoves.{WithinReach, PastTheEnd, BelowTheStart, WideSlotsAbove, WideSlotsBelow, Members, WrappedDistance, NullDoesNotMove, SitesOfParts, SitesInOrder}
 
 pub within_reach : WithinReach
 unfolding and_then layout exponent_of
@@ -36,6 +36,10 @@ wrapped_distance = refl
 pub null_does_not_move : NullDoesNotMove
 unfolding and_then layout exponent_of
 null_does_not_move = refl
+
+pub sites_of_parts : SitesOfParts
+unfolding and_then layout exponent_of
+sites_of_parts = refl
 
 pub sites_in_order : SitesInOrder
 unfolding and_then layout exponent_of

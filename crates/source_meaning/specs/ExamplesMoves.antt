@@ -8,12 +8,12 @@ use Rattle.c_words.specs.declared.operators.AssignOperator.TheVariants as assign
 use Rattle.c_typed.specs.declared.typed_expr.Called.TheVariants.{Defined}
 use Rattle.c_typed.specs.declared.typed_expr.Conversion.TheVariants as conversion
 use Rattle.c_typed.specs.Types.CType.{Char, Int, Unsigned, Struct, Pointer, Array}
-use Rattle.c_typed.specs.TypedTree.{CStart, CProgram}
-use Rattle.c_typed.specs.TypedTree.CForm.{Local, Number, Convert, Index, Call, Member, Arrow, StepBefore, StepAfter, Unary, Binary, Assign, SizeofExpression}
-use Rattle.c_typed.specs.TypedTree.CStmt.{Block, Declare, Eval, Do, For, Return}
+use Rattle.c_typed.specs.TypedTree.{CInitial, CStart, CProgram}
+use Rattle.c_typed.specs.TypedTree.CForm.{Local, Number, Convert, Index, Call, Member, Arrow, StepBefore, StepAfter, Unary, Binary, Conditional, Assign, Comma, SizeofExpression}
+use Rattle.c_typed.specs.TypedTree.CStmt.{Block, Declare, Eval, If, IfElse, While, Do, For, Return}
 use Rattle.source_meaning.specs.declared.values.Ending.TheVariants.{Exited, Reported}
 use Rattle.source_meaning.specs.Worlds.Mark.{Line, Moved}
-use Rattle.source_meaning.specs.Examples.{on, here, e_on, e, number, local, named, array, as_number, set, does, gives, declared, starts, given, declares, block, variable, in_memory, function, member, struct, program, main_of, below, at, Runs}
+use Rattle.source_meaning.specs.Examples.{on, here, e_on, e, number, local, named, array, as_number, set, does, gives, declared, starts, given, parts, declares, declares_with, block, variable, in_memory, function, member, struct, program, main_of, below, at, Runs}
 
 -- The last places on both sides of 16 bytes are 23 and -8; an index, `+`, `+=` and `--` lead there.
 --   int main(void) { char a[16]; char *p; p = a + 23; p = &a[-8]; p += 31; p--; return p - a; }
@@ -189,6 +189,56 @@ NullDoesNotMove = Runs 4 null_does_not_move [] 8 (record {
   nodes = 9;
   bytes = 0;
   trail = Line 1 ∷ Line 1 ∷ [];
+})
+
+-- The parts of expressions, statements and initializers have theirs in order, be they evaluated or not.
+--   int h(int x, int y) { return x + y; } int main(void) { int a[4] = { 1 }; int b[2] = { a[0], a[1] }; int x = (a[1]
+--   ? a[2] : a[3]) + (a[0] ? a[1] : a[2]); if (a[0]) b[1] = 2; if (a[1]) a[2] = 5; else a[a[3]] = a[0]; while (b[0] <
+--   2) b[0]++; return (h(a[0], b[0]), b[1] && a[1] || a[2]) + x; }
+abbrev pub sites_of_parts : CProgram
+sites_of_parts =
+    program [] [] []
+    (function 1 Int 2 (variable Int ∷ variable Int ∷ []) (Block here (block (gives (e Int (Binary op.Add (local 0) (local 1))) ∷ [])))
+    ∷ function 1 Int 0 (in_memory (Array Int 4) 16 ∷ in_memory (Array Int 2) 8 ∷ variable Int ∷ [])
+    (Block here
+    (block
+    (Declare (declares_with here 0 (CInitial.Braces here (parts (CInitial.Value (number 1) ∷ []))))
+    ∷ Declare
+    (declares_with here 1
+    (CInitial.Braces here (parts (CInitial.Value (e Int (Index (array Int 4 0) (number 0))) ∷ CInitial.Value (e Int (Index (array Int 4 0) (number 1))) ∷ []))))
+    ∷ starts 2
+    (e Int
+    (Binary op.Add (e Int (Conditional (e Int (Index (array Int 4 0) (number 1))) (e Int (Index (array Int 4 0) (number 2))) (e Int (Index (array Int 4 0) (number 3)))))
+    (e Int (Conditional (e Int (Index (array Int 4 0) (number 0))) (e Int (Index (array Int 4 0) (number 1))) (e Int (Index (array Int 4 0) (number 2)))))))
+    ∷ If here (e Int (Index (array Int 4 0) (number 0))) (does (set (e Int (Index (array Int 2 1) (number 1))) (number 2)))
+    ∷ IfElse here (e Int (Index (array Int 4 0) (number 1))) (does (set (e Int (Index (array Int 4 0) (number 2))) (number 5)))
+    (does (set (e Int (Index (array Int 4 0) (e Int (Index (array Int 4 0) (number 3))))) (e Int (Index (array Int 4 0) (number 0)))))
+    ∷ While here (e Int (Binary op.Less (e Int (Index (array Int 2 1) (number 0))) (number 2)))
+    (does (e Int (StepAfter step.Increment (e Int (Index (array Int 2 1) (number 0))))))
+    ∷ gives
+    (e Int
+    (Binary op.Add
+    (e Int
+    (Comma (e Int (Call (Defined 0) (given (e Int (Index (array Int 4 0) (number 0)) ∷ e Int (Index (array Int 2 1) (number 0)) ∷ []))))
+    (e Int
+    (Binary op.LogicalOr (e Int (Binary op.LogicalAnd (e Int (Index (array Int 2 1) (number 1))) (e Int (Index (array Int 4 0) (number 1)))))
+    (e Int (Index (array Int 4 0) (number 2)))))))
+    (local 2)))
+    ∷ [])))
+    ∷ [])
+    1
+
+abbrev pub SitesOfParts : Type 0
+SitesOfParts = Runs 4 sites_of_parts [] 8 (record {
+  ending = Exited 0;
+  output = [];
+  nodes = 97;
+  bytes = 36;
+  trail = Line 1 ∷ Moved 0 (at 0 (pos 0)) (at 0 (pos 0)) ∷ Moved 1 (at 0 (pos 0)) (at 0 (pos 4)) ∷ Moved 2 (at 0 (pos 0)) (at 0 (pos 4)) ∷ Moved 4 (at 0 (pos 0)) (at 0 (pos 12))
+      ∷ Moved 5 (at 0 (pos 0)) (at 0 (pos 0)) ∷ Moved 6 (at 0 (pos 0)) (at 0 (pos 4)) ∷ Line 1 ∷ Moved 8 (at 0 (pos 0)) (at 0 (pos 0)) ∷ Line 1 ∷ Moved 9 (at 1 (pos 0)) (at 1 (pos 4)) ∷ Line 1
+      ∷ Moved 10 (at 0 (pos 0)) (at 0 (pos 4)) ∷ Line 1 ∷ Moved 12 (at 0 (pos 0)) (at 0 (pos 12)) ∷ Moved 13 (at 0 (pos 0)) (at 0 (pos 0)) ∷ Moved 14 (at 0 (pos 0)) (at 0 (pos 0)) ∷ Line 1
+      ∷ Moved 15 (at 1 (pos 0)) (at 1 (pos 0)) ∷ Line 1 ∷ Moved 16 (at 1 (pos 0)) (at 1 (pos 0)) ∷ Moved 15 (at 1 (pos 0)) (at 1 (pos 0)) ∷ Line 1 ∷ Moved 17 (at 0 (pos 0)) (at 0 (pos 0))
+      ∷ Moved 18 (at 1 (pos 0)) (at 1 (pos 0)) ∷ Line 1 ∷ Line 1 ∷ Moved 19 (at 1 (pos 0)) (at 1 (pos 4)) ∷ Moved 20 (at 0 (pos 0)) (at 0 (pos 4)) ∷ Moved 21 (at 0 (pos 0)) (at 0 (pos 8)) ∷ [];
 })
 
 -- The numbers of moves follow the text: in `for` the step comes before the body, in `do` the body before the condition;

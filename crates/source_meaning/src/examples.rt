@@ -1,6 +1,6 @@
 //! Small programs, and what the meaning gives for them: their ends, their output, what they count and what they leave
 //! behind. What is expected was worked out apart from the definitions.
-ghost use Rattle.source_meaning.specs.ExamplesMoves.{WithinReach, PastTheEnd, BelowTheStart, WideSlotsAbove, WideSlotsBelow, Members, WrappedDistance, NullDoesNotMove, SitesInOrder};
+ghost use Rattle.source_meaning.specs.ExamplesMoves.{WithinReach, PastTheEnd, BelowTheStart, WideSlotsAbove, WideSlotsBelow, Members, WrappedDistance, NullDoesNotMove, SitesOfParts, SitesInOrder};
 ghost use Rattle.source_meaning.specs.ExamplesMemory.{LittleEndian, Globals, MarkedBeforeMisaligned, MarkedAtThePadding, MisalignedBeforePadding, Padding, PointersInPieces, PartsOutOfOrder, Forged, PartsAreNoNumbers, DeadMayBeKept, DeadIsNotCompared, DeadIsNotTested, DeadBeforeAcross, Apart, Across, Difference};
 ghost use Rattle.source_meaning.specs.ExamplesCopies.{StructsAreCopied, SourceFirst, ShortTarget, Upwards, Sets, SpanPastTheLength, TooLong, BracesClear, StructParts, Strings};
 ghost use Rattle.source_meaning.specs.ExamplesCalls.{Conversions, Quotients, DivisionByZero, PlaceIsReadLast, Choices, Jumps, WhileIsCut, DoIsNotCut, DoIsCut, CallIsCut, CutBeforeStack, StackIsFull, Echo, HeapIsReused, BadFree, FreedTwice};
@@ -16,6 +16,7 @@ pub fn moves_run()
     ensures members { Members }
     ensures wrapped_distance { WrappedDistance }
     ensures null_does_not_move { NullDoesNotMove }
+    ensures sites_of_parts { SitesOfParts }
     ensures sites_in_order { SitesInOrder }
 {}
 
