@@ -5,7 +5,7 @@ use Rattle.bb_words.specs.Numbers.{signed_quotient, signed_remainder, signed_rig
 use Rattle.size_table.specs.Pads.{exponent_of}
 use Rattle.buddy_heap.specs.Places.{place_of, first_of}
 use Rattle.block_layout.specs.Layout.{layout}
-use Rattle.source_meaning.specs.ExamplesCalls.{Conversions, Quotients, DivisionByZero, PlaceIsReadLast, Choices, Jumps, WhileIsCut, DoIsNotCut, DoIsCut, CallIsCut, CutBeforeStack, StackIsFull, Echo, HeapIsReused, BadFree, FreedTwice}
+use Rattle.source_meaning.specs.ExamplesCalls.{Conversions, Quotients, DivisionByZero, PlaceIsReadLast, Choices, Jumps, NothingReturned, WhileIsCut, DoIsNotCut, DoIsCut, CallIsCut, CutBeforeStack, StackIsFull, Echo, HeapIsReused, BadFree, FreedTwice}
 
 pub conversions : Conversions
 unfolding and_then layout exponent_of signed_right_shift
@@ -30,6 +30,10 @@ choices = refl
 pub jumps : Jumps
 unfolding and_then layout exponent_of
 jumps = refl
+
+pub nothing_returned : NothingReturned
+unfolding and_then layout exponent_of
+nothing_returned = refl
 
 pub while_is_cut : WhileIsCut
 unfolding and_then layout exponent_of

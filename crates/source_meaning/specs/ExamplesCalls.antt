@@ -9,7 +9,7 @@ use Rattle.c_typed.specs.declared.typed_expr.Called.TheVariants.{Defined, Librar
 use Rattle.c_typed.specs.declared.typed_expr.LibCall.TheVariants as lib
 use Rattle.c_typed.specs.declared.typed_expr.Conversion.TheVariants as conversion
 use Rattle.c_typed.specs.Types.CType.{Void, Char, Int, Unsigned, Pointer, Array}
-use Rattle.c_typed.specs.TypedTree.{CStart, CProgram}
+use Rattle.c_typed.specs.TypedTree.{CStart, CStmts, CProgram}
 use Rattle.c_typed.specs.TypedTree.CForm.{Local, Global, Number, Convert, Index, Call, StepBefore, StepAfter, Unary, Binary, Conditional, Assign, Comma}
 use Rattle.c_typed.specs.TypedTree.CStmt.{Block, Declare, Eval, If, While, Do, For, Break, Continue, Return}
 use Rattle.source_meaning.specs.declared.values.OutsideCause.TheVariants as outside
@@ -221,6 +221,34 @@ Jumps = Runs 4 jumps [] 8 (record {
   bytes = 0;
   trail = Line 1 ∷ Line 1 ∷ Line 1 ∷ Line 1 ∷ Line 1 ∷ Line 1 ∷ Line 1 ∷ Line 1 ∷ Line 1 ∷ Line 1 ∷ Line 1 ∷ Line 1 ∷ Line 1 ∷ Line 1 ∷ Line 1 ∷ Line 1 ∷ Line 1 ∷ Line 1 ∷ Line 1 ∷ Line 1 ∷ Line 1
       ∷ Line 1 ∷ Line 1 ∷ Line 1 ∷ Line 1 ∷ Line 1 ∷ Line 1 ∷ Line 1 ∷ Line 1 ∷ Line 1 ∷ Line 1 ∷ Line 1 ∷ Line 1 ∷ [];
+})
+
+-- A function that ends without `return` gives 0 or the null pointer.
+--   int f(void) { } int *p(void) { } int main(void) { int x = 7; x = f(); return x + (p() == 0); }
+abbrev pub nothing_returned : CProgram
+nothing_returned =
+    program [] [] []
+    (function 1 Int 0 [] (Block here CStmts.none)
+    ∷ function 1 (Pointer Int) 0 [] (Block here CStmts.none)
+    ∷ function 1 Int 0 (variable Int ∷ [])
+    (Block here
+    (block
+    (starts 0 (number 7)
+    ∷ does (set (local 0) (e Int (Call (Defined 0) given_none)))
+    ∷ gives
+    (e Int
+    (Binary op.Add (local 0) (e Int (Binary op.Equal (e (Pointer Int) (Call (Defined 1) given_none)) (e (Pointer Int) (Convert conversion.NullToPointer (number 0)))))))
+    ∷ [])))
+    ∷ [])
+    2
+
+abbrev pub NothingReturned : Type 0
+NothingReturned = Runs 4 nothing_returned [] 8 (record {
+  ending = Exited 1;
+  output = [];
+  nodes = 18;
+  bytes = 0;
+  trail = Line 1 ∷ Line 1 ∷ Line 1 ∷ Line 1 ∷ Line 1 ∷ [];
 })
 
 -- The test that ends a `while` or a `for` is a turn too: three more turns need a fourth.

@@ -3,7 +3,7 @@
 ghost use Rattle.source_meaning.specs.ExamplesMoves.{WithinReach, PastTheEnd, BelowTheStart, WideSlotsAbove, WideSlotsBelow, Members, WrappedDistance, NullDoesNotMove, SitesOfParts, SitesInOrder};
 ghost use Rattle.source_meaning.specs.ExamplesMemory.{LittleEndian, Globals, MarkedBeforeMisaligned, MarkedAtThePadding, MisalignedBeforePadding, Padding, PointersInPieces, PartsOutOfOrder, Forged, PartsAreNoNumbers, DeadMayBeKept, DeadIsNotCompared, DeadIsNotTested, DeadBeforeAcross, Apart, Across, Difference};
 ghost use Rattle.source_meaning.specs.ExamplesCopies.{StructsAreCopied, SourceFirst, ShortTarget, Upwards, Sets, SpanPastTheLength, TooLong, BracesClear, StructParts, Strings};
-ghost use Rattle.source_meaning.specs.ExamplesCalls.{Conversions, Quotients, DivisionByZero, PlaceIsReadLast, Choices, Jumps, WhileIsCut, DoIsNotCut, DoIsCut, CallIsCut, CutBeforeStack, StackIsFull, Echo, HeapIsReused, BadFree, FreedTwice};
+ghost use Rattle.source_meaning.specs.ExamplesCalls.{Conversions, Quotients, DivisionByZero, PlaceIsReadLast, Choices, Jumps, NothingReturned, WhileIsCut, DoIsNotCut, DoIsCut, CallIsCut, CutBeforeStack, StackIsFull, Echo, HeapIsReused, BadFree, FreedTwice};
 ghost use Rattle.source_meaning.specs.ExamplesAccounts.{Layout, RoundedFrame, WideLayout, DepthIsReported};
 
 /// Pointers move as far as they may, and what goes further is reported.
@@ -63,6 +63,7 @@ pub fn calls_run()
     ensures place_is_read_last { PlaceIsReadLast }
     ensures choices { Choices }
     ensures jumps { Jumps }
+    ensures nothing_returned { NothingReturned }
     ensures while_is_cut { WhileIsCut }
     ensures do_is_not_cut { DoIsNotCut }
     ensures do_is_cut { DoIsCut }
