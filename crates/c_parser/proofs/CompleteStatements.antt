@@ -193,6 +193,11 @@ module _ (g : Limits) where
       → Runs g Sort.statement (body (Rule.statement d)) (ts ++ rest) (Outcome.read (StatementTree.Block x, false) rest)
   block_statement d _ x rest (IsBlock.braces o xs to) r = Runs.look (Runs.call r Runs.give)
 
+  only_if : (d : Level) (at : At) (a : ExpressionTree) (x : StatementTree) (b : Bool) (rest : List Placed) → is_else (first rest) ≡ false
+      → Runs g Sort.statement (else_by at a d (x, b)) rest (Outcome.read (StatementTree.If at a x, true) rest)
+  only_if d at a x true rest h = Runs.give
+  only_if d at a x false rest h = c.no_ g is_else _ _ h Runs.give
+
   mutual
     read_statement : {d : Level} {b : Bool} {ts : List Placed} {x : StatementTree} → IsStatement g d b ts x → (rest : List Placed) → Closes b rest
         → Runs g Sort.statement (body (Rule.statement d)) (ts ++ rest) (Outcome.read (x, b) rest)
@@ -201,7 +206,7 @@ module _ (g : Limits) where
     read_statement (IsStatement.expression {d = d} {ts = ts} {a = a} x to) rest closes = value_read d ts a to x rest
     read_statement (IsStatement.only_if {d = d} {at = at} {from = from} {cs = cs} {c = a} {ts = ts} o x to y) rest closes =
         rw append_assoc (Runs.look (Runs.take (λ k. refl) (Runs.take (c.ok g from d o) (Runs.call (e.expression g x (mark m.CloseParen to ∷ (ts ++ rest)) (omega arith)) (Runs.take (λ k. refl)
-          (Runs.call (read_statement y rest (λ k. closes refl)) (c.no_ g is_else _ _ (closes refl) Runs.give)))))))
+          (Runs.call (read_statement y rest (λ k. closes refl)) (only_if d at a _ _ rest (closes refl))))))))
     read_statement (IsStatement.if_else {d = d} {at = at} {from = from} {cs = cs} {c = a} {ts = ts} {us = us} o x to y other z) rest closes =
         rw (append_assoc, append_assoc) (Runs.look (Runs.take (λ k. refl) (Runs.take (c.ok g from d o) (Runs.call (e.expression g x (mark m.CloseParen to ∷ (ts ++ (word w.Else other ∷ (us ++ rest)))) (omega arith)) (Runs.take (λ k. refl)
           (Runs.call (read_statement y (word w.Else other ∷ (us ++ rest)) (λ k. absurd (false≢true k))) (c.yes_ g is_else _ _ refl (Runs.take (λ k. refl) (Runs.call (read_statement z rest closes) Runs.give)))))))))

@@ -310,10 +310,14 @@ module _ (g : Limits) where
   -- what follows the first statement of an `if`
   else_right : (at from to : At) (d : Level) (c : ExpressionTree) (cs us : List Placed) → Opens g from d → IsExpression g (suc d) cs c → (x : StatementTree) (b : Bool) → IsStatement g (suc d) b us x
       → P _ (else_by at c d (x, b)) (λ ts y. IsStatement g d y.1 (word w.If at ∷ mark m.OpenParen from ∷ (cs ++ (mark m.CloseParen to ∷ (us ++ ts)))) y.0)
-  else_right at from to d c cs us op i x true h = whens is_else Proves.refuse (Proves.give (rw append-nil (IsStatement.only_if op i to h)))
+  else_right at from to d c cs us op i x true h = Proves.give (rw append-nil (IsStatement.only_if op i to h))
   else_right at from to d c cs us op i x false h = whens is_else
       (takes (λ at. refl) (λ other k. last (λ y vs j. IsStatement.if_else op i to h other j)))
       (Proves.give (rw append-nil (IsStatement.only_if op i to h)))
+
+  else_goes : (at : At) (c : ExpressionTree) (d : Level) (x : StatementTree) (b : Bool) → o.goes (else_by at c d (x, b)) ≡ true
+  else_goes at c d x true = refl
+  else_goes at c d x false = refl
 
   -- a statement that begins here may not be in a place where none does
   first_opens : (again : At) (d : Level) (at : At) (ts us : List Placed) → (g at ≡ true → opens d ≡ true) → Some_ ts → (Begins at (ts ++ us)) → Opens g (first_at ts again) d
@@ -428,7 +432,9 @@ module _ (g : Limits) where
   statement_right d (Some (Token.Mark m.Semicolon)) = takes (λ at. refl) (λ at k. Proves.give IsStatement.empty)
   statement_right d (Some (Token.Mark m.OpenBrace)) = last (λ x us i. IsStatement.block i)
   statement_right d (Some (Token.Word w.If)) = takes (λ at. refl) (λ at k. takes (λ at. refl) (λ from l. calls (λ c. refl) (λ c cs i. takes (λ at. refl) (λ to k.
-      calls (λ x. refl) (λ x us j. else_right at from to d c cs us (open_at from d l) i x.0 x.1 j)))))
+      Proves.call
+        (λ x us j. o.completes g (samples g) _ _ _ (else_right at from to d c cs us (open_at from d l) i x.0 x.1 j) (else_goes at c d x.0 x.1))
+        (λ x us j. else_right at from to d c cs us (open_at from d l) i x.0 x.1 j)))))
   statement_right d (Some (Token.Word w.While)) = takes (λ at. refl) (λ at k. takes (λ at. refl) (λ from l. calls (λ c. refl) (λ c cs i. takes (λ at. refl) (λ to k.
       last (λ x us j. IsStatement.while (open_at from d l) i to j)))))
   statement_right d (Some (Token.Word w.Do)) = Proves.take (λ at k free. do_sample at free) (λ at k. Proves.look (do_right d at))

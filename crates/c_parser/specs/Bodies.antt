@@ -152,9 +152,10 @@ declarator_by d n (Some (Token.Mark m.OpenParen)) = take (Token.Mark m.OpenParen
 declarator_by d n _ = refuse
 
 -- ---- statements
+-- An `else` belongs to the nearest `if`: behind a statement that ends in an `if` without `else` there is none.
 abbrev pub else_by : At → ExpressionTree → Level → StatementTree × Bool → Program Sort.statement
-else_by at c d x = when is_else
-    (if x.1 then refuse else take (Token.Word w.Else) true (λ other. call (Rule.statement (suc d)) (λ y. give (StatementTree.IfElse at c x.0 y.0, y.1))))
+else_by at c d x = if x.1 then give (StatementTree.If at c x.0, true) else when is_else
+    (take (Token.Word w.Else) true (λ other. call (Rule.statement (suc d)) (λ y. give (StatementTree.IfElse at c x.0 y.0, y.1))))
     (give (StatementTree.If at c x.0, true))
 
 abbrev pub do_by : Level → At → Option Token → Program Sort.statement
