@@ -1,21 +1,19 @@
 -- What the grammar of declarations derives is read.
-use Rattle.std.proofs.Common.{◌≡◌, ℕ, zero, suc, ◌≤◌, ◌<◌, ◌+◌, Bool, true, false, cond, ◌&&◌, List, [], ◌∷◌, ◌++◌, Option, Some, None, refl, sym, ap, ◌∙◌, subst, append_assoc, arith}
+use Rattle.std.proofs.Common.{◌≡◌, ℕ, suc, ◌<◌, ◌+◌, Bool, true, false, cond, ◌&&◌, List, [], ◌∷◌, ◌++◌, Option, Some, refl, sym, ap, ◌∙◌, subst, append_assoc, arith}
 use Rattle.std.proofs.lemmas.Bool.{false≢true}
 use Rattle.c_words.specs.Tokens.{Token, Placed}
 use Rattle.c_words.specs.declared.place.At.{At}
 use Rattle.c_words.specs.declared.words.Reserved.TheVariants as w
 use Rattle.c_words.specs.declared.words.Punctuator.TheVariants as m
-use Rattle.c_tree.specs.declared.syntax.specifiers.Specifier.{Specifier}
-use Rattle.c_tree.specs.declared.syntax.specifiers.Specifier.TheVariants as s
-use Rattle.c_tree.specs.Syntax.{ExpressionTree, ArrayTree, ParameterDeclaratorTree, ParameterTree, ParametersTree, SuffixTree, DeclaratorTree, InitializerTree, InitializerTrees, InitDeclaratorTree, DeclarationTree, MemberDeclarationTree}
+use Rattle.c_tree.specs.Syntax.{ArrayTree, ParameterDeclaratorTree, ParameterTree, ParametersTree, SuffixTree, DeclaratorTree, InitializerTree, InitializerTrees, InitDeclaratorTree, DeclarationTree, MemberDeclarationTree}
 use Rattle.c_tree.specs.GrammarLimits.{Limits, Level, Opens}
 use Rattle.c_tree.specs.GrammarTokens.{mark, word, identifier, Optional, Many, Commas}
-use Rattle.c_tree.specs.GrammarExpressions.{IsSpecifier, specifier_at, AreStars, IsConditional, IsAssignment}
-use Rattle.c_tree.specs.GrammarDeclarations.{declarator_at, parameter_declarator_at, is_lone_void, IsArray, IsParameterDeclarator, IsParameter, AreParameters, IsSuffix, IsDeclarator, IsInitializer, AreParts, IsInitDeclarator, IsDeclaration, IsMember}
+use Rattle.c_tree.specs.GrammarExpressions.{IsSpecifier, AreStars}
+use Rattle.c_tree.specs.GrammarDeclarations.{parameter_declarator_at, is_lone_void, IsArray, IsParameterDeclarator, IsParameter, AreParameters, IsSuffix, IsDeclarator, IsInitializer, AreParts, IsInitDeclarator, IsDeclaration, IsMember}
 use Rattle.c_parser.specs.Programs.{Sort, Value, Rule, Program, Outcome}
 use Rattle.c_parser.specs.Tests.{first, is_comma, is_semicolon, is_equal, is_star, is_open_paren, is_close_paren, is_open_bracket, is_close_bracket, is_open_brace, is_close_brace, begins_expression, begins_specifier, begins_suffix}
-use Rattle.c_parser.specs.Bodies.{body, is_no_declarator, is_void, parameters_of, parameter_declarator_by, declarator_by}
-use Rattle.c_parser.specs.Runs.{Runs, token_at}
+use Rattle.c_parser.specs.Bodies.{body, is_no_declarator, is_void, parameters_of, parameter_declarator_by}
+use Rattle.c_parser.specs.Runs.{Runs}
 use Rattle.c_parser.proofs.CompleteSteps as c
 use Rattle.c_parser.proofs.Follow as f
 use Rattle.c_parser.proofs.Follow.{Front, level}
@@ -88,7 +86,7 @@ module _ (g : Limits) where
   commas_read ends r comma one (Commas.last {ts = ts} {x = x} i) rest h no_more = Runs.call (one ts x i rest h) (c.reads_ g (c.no_ g is_comma _ _ no_more Runs.give))
   commas_read ends r comma one (Commas.next {ts = ts} {x = x} {us = us} i at is) rest h no_more =
       rw append_assoc (Runs.call (one ts x i (mark m.Comma at ∷ (us ++ rest)) (comma at))
-        (c.reads_ g (c.yes_ g is_comma _ _ refl (Runs.take (λ k. refl) (Runs.call (commas_read ends r comma one is rest h no_more) Runs.give)))))
+      (c.reads_ g (c.yes_ g is_comma _ _ refl (Runs.take (λ k. refl) (Runs.call (commas_read ends r comma one is rest h no_more) Runs.give)))))
 
   pub optional_read : {s : Sort} (none : Option Token → Bool) (r : Rule s) {Is : List Placed → Value s → Type 0} (rest : List Placed) → none (first rest) ≡ true
       → ((ts : List Placed) (x : Value s) → Is ts x → (none (first (ts ++ rest)) ≡ false) × Runs g s (body r) (ts ++ rest) (Outcome.read x rest))
@@ -98,10 +96,13 @@ module _ (g : Limits) where
 
   array_read : (d : Level) (ts : List Placed) (a : ArrayTree) → IsArray g d ts a → (rest : List Placed)
       → (is_open_bracket (first (ts ++ rest)) ≡ true) × Runs g Sort.array (body (Rule.array d)) (ts ++ rest) (Outcome.read a rest)
-  array_read d _ _ (IsArray.array {at = at} {ts = ts} o x to) rest = (refl, rw append_assoc (Runs.take (c.ok g at d o)
-      (Runs.call (optional_read is_close_bracket (Rule.conditional (suc d)) (mark m.CloseBracket to ∷ rest) refl
+  array_read d _ _ (IsArray.array {at = at} {ts = ts} o x to) rest = (
+    refl,
+    rw append_assoc (Runs.take (c.ok g at d o)
+        (Runs.call (optional_read is_close_bracket (Rule.conditional (suc d)) (mark m.CloseBracket to ∷ rest) refl
         (λ ts a i. (f.front_is begins_expression is_close_bracket not_close_bracket ts (mark m.CloseBracket to ∷ rest) (f.conditional_front g i), e.conditional g i (mark m.CloseBracket to ∷ rest) (omega arith))) x)
-        (Runs.take (λ k. refl) Runs.give))))
+        (Runs.take (λ k. refl) Runs.give))),
+  )
 
   arrays_read : {d : Level} {ts : List Placed} {xs : List ArrayTree} → Many (IsArray g d) ts xs → (rest : List Placed) → is_open_bracket (first rest) ≡ false
       → Runs g (Sort.many Sort.array) (body (Rule.repeat is_open_bracket (Rule.array d))) (ts ++ rest) (Outcome.read xs rest)
@@ -131,8 +132,8 @@ module _ (g : Limits) where
   inner_ends : (d : Level) (at to : At) (ts rest : List Placed) (n : ℕ) (inner : ParameterDeclaratorTree) (xs : List ArrayTree) → is_no_declarator inner ≡ false
       → Runs g (Sort.many Sort.array) (body (Rule.repeat is_open_bracket (Rule.array d))) (ts ++ rest) (Outcome.read xs rest)
       → Runs g Sort.parameter_declarator (cond (is_no_declarator inner) Program.refuse (Program.take (Token.Mark m.CloseParen) true (λ to. Program.call (Rule.repeat is_open_bracket (Rule.array d)) (λ arrays.
-          Program.give (ParameterDeclaratorTree.Nested (parameter_declarator_at inner) n inner arrays)))))
-        (mark m.CloseParen to ∷ (ts ++ rest)) (Outcome.read (ParameterDeclaratorTree.Nested (parameter_declarator_at inner) n inner xs) rest)
+      Program.give (ParameterDeclaratorTree.Nested (parameter_declarator_at inner) n inner arrays)))))
+      (mark m.CloseParen to ∷ (ts ++ rest)) (Outcome.read (ParameterDeclaratorTree.Nested (parameter_declarator_at inner) n inner xs) rest)
   inner_ends d at to ts rest n inner xs some r = rw some (Runs.take (λ k. refl) (Runs.call r Runs.give))
 
   arrays_at : (d e n : ℕ) → e ≡ d + n → (all rest : List Placed) (xs : List ArrayTree) → Runs g (Sort.many Sort.array) (body (Rule.repeat is_open_bracket (Rule.array e))) all (Outcome.read xs rest)
@@ -145,20 +146,20 @@ module _ (g : Limits) where
       let b = behind_parameter (first rest) h in
       let i = arrays_behind y rest b.0 in
       rw append_assoc (Runs.call (e.stars_read g x (ts ++ rest) i.star)
-        (c.looked g (parameter_declarator_by (d + n) at n) _ (by_default (d + n) at n (first (ts ++ rest)) i)
-          (Runs.call (arrays_at d l n (e.stars_deep g x) (ts ++ rest) rest xs (arrays_read y rest b.1)) Runs.give)))
+      (c.looked g (parameter_declarator_by (d + n) at n) _ (by_default (d + n) at n (first (ts ++ rest)) i)
+      (Runs.call (arrays_at d l n (e.stars_deep g x) (ts ++ rest) rest xs (arrays_read y rest b.1)) Runs.give)))
   parameter_declarator_read (IsParameterDeclarator.named {d = d} {e = l} {at = at} {own = own} {n = n} {x = name} {ts = ts} {arrays = xs} x y) rest h =
       let b = behind_parameter (first rest) h in
       rw append_assoc (Runs.call (e.stars_read g x (identifier name own ∷ (ts ++ rest)) refl)
-        (Runs.look (Runs.take (λ k. refl) (Runs.call (arrays_at d l n (e.stars_deep g x) (ts ++ rest) rest xs (arrays_read y rest b.1)) Runs.give))))
+      (Runs.look (Runs.take (λ k. refl) (Runs.call (arrays_at d l n (e.stars_deep g x) (ts ++ rest) rest xs (arrays_read y rest b.1)) Runs.give))))
   parameter_declarator_read (IsParameterDeclarator.nested {d = d} {e = l} {at = at} {n = n} {first = q} {us = us} {inner = inner} {ts = ts} {arrays = xs} x from o t to y) rest h =
       let b = behind_parameter (first rest) h in
       let deep = e.stars_deep g x in
       let i = subst (λ z. Runs g Sort.parameter_declarator (body (Rule.parameter_declarator (suc z) at)) (q ∷ (us ++ (mark m.CloseParen to ∷ (ts ++ rest)))) (Outcome.read inner (mark m.CloseParen to ∷ (ts ++ rest)))) deep
-        (parameter_declarator_read t (mark m.CloseParen to ∷ (ts ++ rest)) refl) in
+      (parameter_declarator_read t (mark m.CloseParen to ∷ (ts ++ rest)) refl) in
       rw (append_assoc, append_assoc) (Runs.call (e.stars_read g x (mark m.OpenParen from ∷ (q ∷ (us ++ (mark m.CloseParen to ∷ (ts ++ rest))))) refl)
-        (Runs.look (Runs.take (c.ok g from (d + n) (subst (λ z. Opens g from z) deep o)) (Runs.call i
-          (inner_ends (d + n) at to ts rest n inner xs (no_declarator inner q us _ at t) (arrays_at d l n deep (ts ++ rest) rest xs (arrays_read y rest b.1)))))))
+      (Runs.look (Runs.take (c.ok g from (d + n) (subst (λ z. Opens g from z) deep o)) (Runs.call i
+      (inner_ends (d + n) at to ts rest n inner xs (no_declarator inner q us _ at t) (arrays_at d l n deep (ts ++ rest) rest xs (arrays_read y rest b.1)))))))
 
   declarator_word : {d : Level} {at : At} {ts : List Placed} {t : ParameterDeclaratorTree} → IsParameterDeclarator g d at ts t → (rest : List Placed) → ends_parameter (first rest) ≡ true
       → begins_specifier (first (ts ++ rest)) ≡ false
@@ -216,10 +217,13 @@ module _ (g : Limits) where
       bracket : (x : Option Token) → is_open_bracket x ≡ true → begins_suffix x ≡ true
       bracket (Some (Token.Mark m.OpenBracket)) h = refl
       bracket _ h = absurd (false≢true h)
-  suffix_read d _ _ (IsSuffix.function {at = at} {ts = ts} o x to) rest = (refl, rw append_assoc (c.no_ g is_open_bracket _ _ refl (Runs.take (c.ok g at d o)
-      (Runs.call (optional_read is_close_paren (Rule.parameters (suc d)) (mark m.CloseParen to ∷ rest) refl
+  suffix_read d _ _ (IsSuffix.function {at = at} {ts = ts} o x to) rest = (
+    refl,
+    rw append_assoc (c.no_ g is_open_bracket _ _ refl (Runs.take (c.ok g at d o)
+        (Runs.call (optional_read is_close_paren (Rule.parameters (suc d)) (mark m.CloseParen to ∷ rest) refl
         (λ ts ps i. (not_close_paren i (mark m.CloseParen to ∷ rest), parameters_read (suc d) ts ps i (mark m.CloseParen to ∷ rest) refl)) x)
-        (Runs.take (λ k. refl) Runs.give)))))
+        (Runs.take (λ k. refl) Runs.give)))),
+  )
 
   suffixes_at : (d e n : ℕ) → e ≡ d + n → {ts : List Placed} {xs : List SuffixTree} → Many (IsSuffix g e) ts xs → (rest : List Placed) → begins_suffix (first rest) ≡ false
       → Runs g (Sort.many Sort.suffix) (body (Rule.repeat begins_suffix (Rule.suffix (d + n)))) (ts ++ rest) (Outcome.read xs rest)
@@ -233,9 +237,9 @@ module _ (g : Limits) where
   declarator_read (IsDeclarator.nested {d = d} {e = l} {n = n} {us = us} {inner = inner} {ts = ts} x from o t to y) rest h =
       let deep = e.stars_deep g x in
       let i = subst (λ z. Runs g Sort.declarator (body (Rule.declarator (suc z))) (us ++ (mark m.CloseParen to ∷ (ts ++ rest))) (Outcome.read inner (mark m.CloseParen to ∷ (ts ++ rest)))) deep
-        (declarator_read t (mark m.CloseParen to ∷ (ts ++ rest)) refl) in
+      (declarator_read t (mark m.CloseParen to ∷ (ts ++ rest)) refl) in
       rw (append_assoc, append_assoc) (Runs.call (e.stars_read g x (mark m.OpenParen from ∷ (us ++ (mark m.CloseParen to ∷ (ts ++ rest)))) refl)
-        (Runs.look (Runs.take (c.ok g from (d + n) (subst (λ z. Opens g from z) deep o)) (Runs.call i (Runs.take (λ k. refl) (Runs.call (suffixes_at d l n deep y rest h) Runs.give))))))
+      (Runs.look (Runs.take (c.ok g from (d + n) (subst (λ z. Opens g from z) deep o)) (Runs.call i (Runs.take (λ k. refl) (Runs.call (suffixes_at d l n deep y rest h) Runs.give))))))
 
   pub declarator_front : {d : Level} {ts : List Placed} {t : DeclaratorTree} → IsDeclarator g d ts t → Front begins_declarator ts
   declarator_front (IsDeclarator.named AreStars.no_star y) = (_, _, refl, refl)
@@ -286,7 +290,7 @@ module _ (g : Limits) where
       → Runs g Sort.initializers (body (Rule.parts d)) ((ts ++ (mark m.Comma comma ∷ us)) ++ rest) (Outcome.read (InitializerTrees.more i ps) end)
   next_part d ts us rest end i ps comma h front r =
       rw append_assoc (Runs.call h (c.yes_ g is_comma _ _ refl (Runs.take (λ k. refl)
-        (c.no_ g is_close_brace _ _ (f.front_is begins_initializer is_close_brace not_close_brace us rest front) (Runs.call r Runs.give)))))
+      (c.no_ g is_close_brace _ _ (f.front_is begins_initializer is_close_brace not_close_brace us rest front) (Runs.call r Runs.give)))))
 
   mutual
     initializer_read : {d : Level} {ts : List Placed} {i : InitializerTree} → IsInitializer g d ts i → (rest : List Placed) → 12 < level (first rest)
@@ -299,12 +303,14 @@ module _ (g : Limits) where
         rw append_assoc (c.yes_ g is_open_brace _ _ refl (Runs.take (c.ok g at d o) (Runs.call ((parts_read x (mark m.CloseBrace to ∷ rest) refl).1 comma) (Runs.take (λ k. refl) Runs.give))))
 
     parts_read : {d : Level} {ts : List Placed} {ps : InitializerTrees} → AreParts g d ts ps → PartsRead d ts ps
-    parts_read (AreParts.last x) = λ rest h. let b = brace_ends (first rest) h in
-        (Runs.call (initializer_read x rest (omega arith)) (c.no_ g is_comma _ _ b.1 Runs.give),
-         λ comma. Runs.call (initializer_read x (mark m.Comma comma ∷ rest) (omega arith)) (c.yes_ g is_comma _ _ refl (Runs.take (λ k. refl) (c.yes_ g is_close_brace _ _ h Runs.give))))
-    parts_read (AreParts.next {d = d} {ts = ts} {us = us} x comma xs) = λ rest h. let i = parts_read xs rest h in
-        (next_part d ts us rest rest _ _ comma (initializer_read x (mark m.Comma comma ∷ (us ++ rest)) (omega arith)) (parts_front xs) i.0,
-         λ other. next_part d ts us (mark m.Comma other ∷ rest) rest _ _ comma (initializer_read x (mark m.Comma comma ∷ (us ++ (mark m.Comma other ∷ rest))) (omega arith)) (parts_front xs) (i.1 other))
+    parts_read (AreParts.last x) = λ rest h. let b = brace_ends (first rest) h in (
+      Runs.call (initializer_read x rest (omega arith)) (c.no_ g is_comma _ _ b.1 Runs.give),
+      λ comma. Runs.call (initializer_read x (mark m.Comma comma ∷ rest) (omega arith)) (c.yes_ g is_comma _ _ refl (Runs.take (λ k. refl) (c.yes_ g is_close_brace _ _ h Runs.give))),
+    )
+    parts_read (AreParts.next {d = d} {ts = ts} {us = us} x comma xs) = λ rest h. let i = parts_read xs rest h in (
+      next_part d ts us rest rest _ _ comma (initializer_read x (mark m.Comma comma ∷ (us ++ rest)) (omega arith)) (parts_front xs) i.0,
+      λ other. next_part d ts us (mark m.Comma other ∷ rest) rest _ _ comma (initializer_read x (mark m.Comma comma ∷ (us ++ (mark m.Comma other ∷ rest))) (omega arith)) (parts_front xs) (i.1 other),
+    )
 
   record Ended (x : Option Token) : Type 0 where
     suffix : begins_suffix x ≡ false
@@ -327,10 +333,19 @@ module _ (g : Limits) where
 
   pub init_parts : (d : Level) (ts : List Placed) (i : InitDeclaratorTree) → IsInitDeclarator g d ts i → (rest : List Placed) → ends_init (first rest) ≡ true → InitRead d (ts ++ rest) rest i
   init_parts d ts _ (IsInitDeclarator.bare {t = t} x) rest h = let b = init_ends (first rest) h in record {
-    tree = t; mid = rest; declared = declarator_read x rest b.suffix; brace = b.brace; ended = c.no_ g is_equal _ _ b.equal Runs.give }
+    tree = t;
+    mid = rest;
+    declared = declarator_read x rest b.suffix;
+    brace = b.brace;
+    ended = c.no_ g is_equal _ _ b.equal Runs.give;
+  }
   init_parts d _ _ (IsInitDeclarator.initialized {ts = ts} {t = t} {at = at} {us = us} x y) rest h = let b = init_ends (first rest) h in record {
-    tree = t; mid = mark m.Equal at ∷ (us ++ rest); declared = rw append_assoc (declarator_read x (mark m.Equal at ∷ (us ++ rest)) refl); brace = refl;
-    ended = c.yes_ g is_equal _ _ refl (Runs.take (λ k. refl) (Runs.call (initializer_read y rest b.deep) Runs.give)) }
+    tree = t;
+    mid = mark m.Equal at ∷ (us ++ rest);
+    declared = rw append_assoc (declarator_read x (mark m.Equal at ∷ (us ++ rest)) refl);
+    brace = refl;
+    ended = c.yes_ g is_equal _ _ refl (Runs.take (λ k. refl) (Runs.call (initializer_read y rest b.deep) Runs.give));
+  }
 
   init_read : (d : Level) (ts : List Placed) (i : InitDeclaratorTree) → IsInitDeclarator g d ts i → (rest : List Placed) → ends_init (first rest) ≡ true
       → Runs g Sort.init_declarator (body (Rule.init_declarator d)) (ts ++ rest) (Outcome.read i rest)
@@ -361,23 +376,26 @@ module _ (g : Limits) where
 
   pub declaration_read : {d : Level} {ts : List Placed} {x : DeclarationTree} → IsDeclaration g d ts x → (rest : List Placed)
       → (begins_specifier (first (ts ++ rest)) ≡ true) × Runs g Sort.declaration (body (Rule.declaration d)) (ts ++ rest) (Outcome.read x rest)
-  declaration_read (IsDeclaration.nothing {ss = ss} x to) rest =
-      (rw append_assoc (e.specifier_first g x (mark m.Semicolon to ∷ rest)),
-       rw append_assoc (Runs.call (e.specifier_read g x (mark m.Semicolon to ∷ rest) refl) (c.yes_ g is_semicolon _ _ refl (Runs.take (λ k. refl) Runs.give))))
-  declaration_read (IsDeclaration.listed {ss = ss} {ts = ts} x y to) rest =
-      (rw append_assoc (e.specifier_first g x ((ts ++ (mark m.Semicolon to ∷ [])) ++ rest)),
-       rw (append_assoc, append_assoc) (Runs.call (e.specifier_read g x (ts ++ (mark m.Semicolon to ∷ rest)) (f.front_is begins_declarator begins_specifier no_word ts (mark m.Semicolon to ∷ rest) (inits_front y)))
-         (c.no_ g is_semicolon _ _ (f.front_is begins_declarator is_semicolon not_semicolon ts (mark m.Semicolon to ∷ rest) (inits_front y))
-           (Runs.call (inits_read y to rest) (Runs.take (λ k. refl) Runs.give)))))
+  declaration_read (IsDeclaration.nothing {ss = ss} x to) rest = (
+    rw append_assoc (e.specifier_first g x (mark m.Semicolon to ∷ rest)),
+    rw append_assoc (Runs.call (e.specifier_read g x (mark m.Semicolon to ∷ rest) refl) (c.yes_ g is_semicolon _ _ refl (Runs.take (λ k. refl) Runs.give))),
+  )
+  declaration_read (IsDeclaration.listed {ss = ss} {ts = ts} x y to) rest = (
+    rw append_assoc (e.specifier_first g x ((ts ++ (mark m.Semicolon to ∷ [])) ++ rest)),
+    rw (append_assoc, append_assoc) (Runs.call (e.specifier_read g x (ts ++ (mark m.Semicolon to ∷ rest)) (f.front_is begins_declarator begins_specifier no_word ts (mark m.Semicolon to ∷ rest) (inits_front y)))
+        (c.no_ g is_semicolon _ _ (f.front_is begins_declarator is_semicolon not_semicolon ts (mark m.Semicolon to ∷ rest) (inits_front y))
+        (Runs.call (inits_read y to rest) (Runs.take (λ k. refl) Runs.give)))),
+  )
 
   member_ends : (x : Option Token) → ends_init x ≡ true → begins_suffix x ≡ false
   member_ends x h = (init_ends x h).suffix
 
   pub member_read : (d : Level) (ts : List Placed) (x : MemberDeclarationTree) → IsMember g d ts x → (rest : List Placed)
       → (begins_specifier (first (ts ++ rest)) ≡ true) × Runs g Sort.member (body (Rule.member d)) (ts ++ rest) (Outcome.read x rest)
-  member_read d _ _ (IsMember.member {ss = ss} {ts = ts} x y to) rest =
-      (rw append_assoc (e.specifier_first g x ((ts ++ (mark m.Semicolon to ∷ [])) ++ rest)),
-       rw (append_assoc, append_assoc) (Runs.call (e.specifier_read g x (ts ++ (mark m.Semicolon to ∷ rest))
-           (f.front_is begins_declarator begins_specifier no_word ts (mark m.Semicolon to ∷ rest) (commas_front (λ ts i h. declarator_front h) y)))
-         (Runs.call (commas_read ends_init (Rule.declarator d) (λ at. refl) (λ ts t i rest h. declarator_read i rest (member_ends (first rest) h)) y (mark m.Semicolon to ∷ rest) refl refl)
-           (Runs.take (λ k. refl) Runs.give))))
+  member_read d _ _ (IsMember.member {ss = ss} {ts = ts} x y to) rest = (
+    rw append_assoc (e.specifier_first g x ((ts ++ (mark m.Semicolon to ∷ [])) ++ rest)),
+    rw (append_assoc, append_assoc) (Runs.call (e.specifier_read g x (ts ++ (mark m.Semicolon to ∷ rest))
+        (f.front_is begins_declarator begins_specifier no_word ts (mark m.Semicolon to ∷ rest) (commas_front (λ ts i h. declarator_front h) y)))
+        (Runs.call (commas_read ends_init (Rule.declarator d) (λ at. refl) (λ ts t i rest h. declarator_read i rest (member_ends (first rest) h)) y (mark m.Semicolon to ∷ rest) refl refl)
+        (Runs.take (λ k. refl) Runs.give))),
+  )

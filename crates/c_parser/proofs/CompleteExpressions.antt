@@ -1,5 +1,5 @@
 -- What the grammar of expressions derives is read.
-use Rattle.std.proofs.Common.{◌≡◌, ℕ, zero, suc, ◌≤◌, ◌<◌, ◌+◌, Bool, true, false, cond, ◌&&◌, List, [], ◌∷◌, ◌++◌, Option, Some, None, refl, sym, ap, ◌∙◌, subst, append_assoc, arith}
+use Rattle.std.proofs.Common.{◌≡◌, ℕ, zero, suc, ◌<◌, ◌+◌, Bool, true, false, cond, List, [], ◌∷◌, ◌++◌, Option, Some, None, refl, sym, ap, ◌∙◌, subst, append_assoc, arith}
 use Rattle.std.proofs.lemmas.Bool.{false≢true}
 use Rattle.c_words.specs.Tokens.{Token, Placed}
 use Rattle.c_words.specs.declared.place.At.{At}
@@ -14,12 +14,12 @@ use Rattle.c_tree.specs.declared.syntax.specifiers.Specifier.{Specifier}
 use Rattle.c_tree.specs.declared.syntax.specifiers.Specifier.TheVariants as s
 use Rattle.c_tree.specs.Syntax.{ExpressionTree, ExpressionTrees, TypeNameTree, TypeDeclaratorTree}
 use Rattle.c_tree.specs.GrammarLimits.{Limits, Level, Opens, IsLow}
-use Rattle.c_tree.specs.GrammarTokens.{mark, word, identifier, AreStrings, binary_operator, assign_operator, unary_operator, step_operator}
-use Rattle.c_tree.specs.GrammarExpressions.{IsSpecifier, specifier_at, AreStars, IsExpression, IsAssignment, IsConditional, IsBinary, IsCast, IsUnary, IsPostfix, IsPrimary, AreArguments, AreListed, IsTypeName, IsTypeDeclarator, AreSizes}
-use Rattle.c_parser.specs.Programs.{Sort, Value, Rule, Program, Outcome}
+use Rattle.c_tree.specs.GrammarTokens.{mark, identifier, AreStrings, binary_operator, assign_operator, unary_operator, step_operator}
+use Rattle.c_tree.specs.GrammarExpressions.{IsSpecifier, AreStars, IsExpression, IsAssignment, IsConditional, IsBinary, IsCast, IsUnary, IsPostfix, IsPrimary, AreArguments, AreListed, IsTypeName, IsTypeDeclarator, AreSizes}
+use Rattle.c_parser.specs.Programs.{Sort, Rule, Program, Outcome}
 use Rattle.c_parser.specs.Tests.{first, is_comma, is_question, is_star, is_int, is_open_paren, is_close_paren, is_open_bracket, begins_expression, begins_specifier, at_strength, with_mark, operator, assigns, opens, is_low}
-use Rattle.c_parser.specs.Bodies.{body, when, reads, strings_by, unsigned_by, assign_by, binary_by, cast_by, sizeof_by, unary_mark, unary_by, postfix_by, primary_by, is_nothing}
-use Rattle.c_parser.specs.Runs.{Runs, token_at}
+use Rattle.c_parser.specs.Bodies.{body, reads, strings_by, unsigned_by, assign_by, binary_by, cast_by, sizeof_by, unary_mark, unary_by, postfix_by, is_nothing}
+use Rattle.c_parser.specs.Runs.{Runs}
 use Rattle.c_parser.proofs.RunsLaws.{came, Called}
 use Rattle.c_parser.proofs.CompleteSteps as c
 use Rattle.c_parser.proofs.Follow as f
@@ -114,8 +114,9 @@ module _ (g : Limits) where
       → Runs g Sort.expression (Program.call (Rule.parenthesized d at) (λ b. reads (Rule.postfix_rest d b))) ls (Outcome.read y us)
       → Runs g Sort.expression (body (Rule.postfix d)) (mark m.OpenParen at ∷ ls) (Outcome.read y us)
   from_parens d at ls y us ok r = elim (came g _ _ _ _ r) [
-      Called.called x vs a n ↦ Runs.call (Runs.look (Runs.take ok (c.reads_ g a))) n
-    | Called.failed why vs a e ↦ absurd (cc) ]
+    | Called.called x vs a n ↦ Runs.call (Runs.look (Runs.take ok (c.reads_ g a))) n
+    | Called.failed why vs a e ↦ absurd (cc)
+  ]
 
   unary_run : (d : Level) (all : List Placed) (y : ExpressionTree) (us : List Placed) → UnaryRun d all y us → Runs g Sort.expression (body (Rule.unary d)) all (Outcome.read y us)
   unary_run d all y us (UnaryRun.plain is r) = r
@@ -128,10 +129,11 @@ module _ (g : Limits) where
   sizeof_parens : (d : Level) (at from : At) (ls : List Placed) (y : ExpressionTree) (us : List Placed)
       → Runs g Sort.expression (Program.call (Rule.parenthesized d from) (λ b. reads (Rule.postfix_rest d b))) ls (Outcome.read y us)
       → Runs g Sort.expression (Program.call (Rule.parenthesized d from) (λ a. Program.call (Rule.postfix_rest d a) (λ b. Program.give (ExpressionTree.SizeofExpression at b)))) ls
-        (Outcome.read (ExpressionTree.SizeofExpression at y) us)
+      (Outcome.read (ExpressionTree.SizeofExpression at y) us)
   sizeof_parens d at from ls y us r = elim (came g _ _ _ _ r) [
-      Called.called x vs a n ↦ Runs.call a (Runs.call (c.unreads g n) Runs.give)
-    | Called.failed why vs a e ↦ absurd (cc) ]
+    | Called.called x vs a n ↦ Runs.call a (Runs.call (c.unreads g n) Runs.give)
+    | Called.failed why vs a e ↦ absurd (cc)
+  ]
 
   sizeof_run : (d : Level) (at : At) (all : List Placed) (y : ExpressionTree) (us : List Placed) → UnaryRun (suc d) all y us
       → Runs g Sort.expression (Program.look (sizeof_by d at)) all (Outcome.read (ExpressionTree.SizeofExpression at y) us)
@@ -219,8 +221,8 @@ module _ (g : Limits) where
       let found : operator (suc k) (Some (Token.Mark p)) ≡ Some (p, op) = ap (at_strength (suc k) p) is ∙ f.same_strength (suc k) p op in
       let deep : level (Some (Token.Mark p)) ≡ suc k = f.level_of p (suc k) op is in
       let step : Runs g Sort.expression (body (Rule.binary_rest k d a)) (mark p at ∷ (rs ++ rest)) (Outcome.read y us) =
-          Runs.look (subst (λ x. Runs g Sort.expression (binary_by k d a x) (mark p at ∷ (rs ++ rest)) (Outcome.read y us)) (sym found)
-            (Runs.take (c.low g at a low) (Runs.call (binary_read k d rs b i rest l) (c.reads_ g r)))) in
+      Runs.look (subst (λ x. Runs g Sort.expression (binary_by k d a x) (mark p at ∷ (rs ++ rest)) (Outcome.read y us)) (sym found)
+      (Runs.take (c.low g at a low) (Runs.call (binary_read k d rs b i rest l) (c.reads_ g r)))) in
       rw append_assoc (h (mark p at ∷ (rs ++ rest)) y us (omega arith) step)
 
   assign_read : (d : Level) (ls rs : List Placed) (a b : ExpressionTree) (op : AssignOperator) (at : At) (p : Punctuator) (rest : List Placed)
@@ -230,7 +232,7 @@ module _ (g : Limits) where
   assign_read d ls rs a b op at p rest h low is o i =
       let found : assigns (Some (Token.Mark p)) ≡ Some (p, op) = ap (with_mark p) is in
       rw append_assoc (Runs.call h (Runs.look (subst (λ x. Runs g Sort.expression (assign_by d a x) (mark p at ∷ (rs ++ rest)) (Outcome.read (ExpressionTree.Assign at a op b) rest)) (sym found)
-        (Runs.take (c.low_ok g at a d low o) (Runs.call i Runs.give)))))
+      (Runs.take (c.low_ok g at a d low o) (Runs.call i Runs.give)))))
 
   type_first : {d : Level} {ts : List Placed} {t : TypeNameTree} → IsTypeName g d ts t → (rest : List Placed) → begins_specifier (first (ts ++ rest)) ≡ true
   type_first (IsTypeName.type_name {ss = ss} {ts = ts} x y) rest = rw append_assoc (specifier_first x (ts ++ rest))
@@ -290,12 +292,12 @@ module _ (g : Limits) where
   type_declarator_direct d e at ss ts rest n xs x y h r =
       let b = behind_stars y rest h in
       rw append_assoc (Runs.call (stars_read x (ts ++ rest) b.0) (c.no_ g is_open_paren _ _ b.1
-        (Runs.call (subst (λ z. Runs g Sort.expressions (body (Rule.sizes z)) (ts ++ rest) (Outcome.read xs rest)) (stars_deep x) r) Runs.give)))
+      (Runs.call (subst (λ z. Runs g Sort.expressions (body (Rule.sizes z)) (ts ++ rest) (Outcome.read xs rest)) (stars_deep x) r) Runs.give)))
 
   inner_ends : (e : Level) (at to : At) (ts rest : List Placed) (n : ℕ) (inner : TypeDeclaratorTree) (xs : ExpressionTrees) → is_nothing inner ≡ false
       → Runs g Sort.expressions (body (Rule.sizes e)) (ts ++ rest) (Outcome.read xs rest)
       → Runs g Sort.type_declarator (cond (is_nothing inner) Program.refuse (Program.take (Token.Mark m.CloseParen) true (λ to. Program.call (Rule.sizes e) (λ sizes. Program.give (TypeDeclaratorTree.Nested at n inner sizes)))))
-        (mark m.CloseParen to ∷ (ts ++ rest)) (Outcome.read (TypeDeclaratorTree.Nested at n inner xs) rest)
+      (mark m.CloseParen to ∷ (ts ++ rest)) (Outcome.read (TypeDeclaratorTree.Nested at n inner xs) rest)
   inner_ends e at to ts rest n inner xs some r = rw some (Runs.take (λ k. refl) (Runs.call r Runs.give))
 
   type_declarator_nested : (d e : Level) (at from to : At) (ss ts us rest : List Placed) (n : ℕ) (inner : TypeDeclaratorTree) (xs : ExpressionTrees) → AreStars g d e ss n → Opens g from e
@@ -309,8 +311,8 @@ module _ (g : Limits) where
       let r' = subst (λ z. Runs g Sort.expressions (body (Rule.sizes z)) (ts ++ rest) (Outcome.read xs rest)) deep r in
       let o' = subst (λ z. Opens g from z) deep o in
       rw (append_assoc, append_assoc) (Runs.call (stars_read x (mark m.OpenParen from ∷ (us ++ (mark m.CloseParen to ∷ (ts ++ rest)))) refl)
-        (c.yes_ g is_open_paren _ _ refl (Runs.take (c.ok g from (d + n) o') (Runs.call i'
-          (inner_ends (d + n) at to ts rest n inner xs some r')))))
+      (c.yes_ g is_open_paren _ _ refl (Runs.take (c.ok g from (d + n) o') (Runs.call i'
+      (inner_ends (d + n) at to ts rest n inner xs some r')))))
 
   -- behind an operand: one operator, and what follows
   post_more : (d : Level) (ls us rest : List Placed) (y : ExpressionTree) (vs : List Placed) → PostRun d (ls ++ (us ++ rest)) y vs → PostRun d ((ls ++ us) ++ rest) y vs
@@ -330,7 +332,7 @@ module _ (g : Limits) where
     read_expression (IsExpression.assignment x) rest y us l r = Runs.call (read_assignment x rest l) (c.reads_ g r)
     read_expression (IsExpression.comma {ls = ls} {a = a} {at = at} {rs = rs} x low z) rest y us l r =
         rw append_assoc (read_expression x (mark m.Comma at ∷ (rs ++ rest)) y us (omega arith)
-          (c.yes_ g is_comma _ _ refl (Runs.take (c.low g at a low) (Runs.call (read_assignment z rest l) (c.reads_ g r)))))
+        (c.yes_ g is_comma _ _ refl (Runs.take (c.low g at a low) (Runs.call (read_assignment z rest l) (c.reads_ g r)))))
 
     read_assignment : {d : Level} {ts : List Placed} {a : ExpressionTree} → IsAssignment g d ts a → (rest : List Placed) → 12 < level (first rest)
         → Runs g Sort.expression (body (Rule.assignment d)) (ts ++ rest) (Outcome.read a rest)
@@ -346,9 +348,9 @@ module _ (g : Limits) where
         Runs.call (binary_read 10 d ts a (read_binary x) rest (omega arith)) (c.no_ g is_question _ _ (f.no_question (first rest) l) Runs.give)
     read_conditional (IsConditional.choice {d = d} {cs = cs} {a = a} {at = at} {ts = ts} {b = b} {us = us} x low o y colon z) rest l =
         rw (append_assoc, append_assoc) (Runs.call (binary_read 10 d cs a (read_binary x) (mark m.Question at ∷ (ts ++ (mark m.Colon colon ∷ (us ++ rest)))) (omega arith))
-          (c.yes_ g is_question _ _ refl (Runs.take (c.low_ok g at a d low o)
-            (Runs.call (read_expression y (mark m.Colon colon ∷ (us ++ rest)) b (mark m.Colon colon ∷ (us ++ rest)) (omega arith) (comma_over (suc d) b (mark m.Colon colon ∷ (us ++ rest)) (omega arith)))
-              (Runs.take (λ k. refl) (Runs.call (read_conditional z rest l) Runs.give))))))
+        (c.yes_ g is_question _ _ refl (Runs.take (c.low_ok g at a d low o)
+        (Runs.call (read_expression y (mark m.Colon colon ∷ (us ++ rest)) b (mark m.Colon colon ∷ (us ++ rest)) (omega arith) (comma_over (suc d) b (mark m.Colon colon ∷ (us ++ rest)) (omega arith)))
+        (Runs.take (λ k. refl) (Runs.call (read_conditional z rest l) Runs.give))))))
 
     read_binary : {k : ℕ} {d : Level} {ts : List Placed} {a : ExpressionTree} → IsBinary g k d ts a → BinaryReads k d ts a
     read_binary (IsBinary.operand x) = λ rest l. c.reads_ g (read_cast x rest l)
@@ -360,20 +362,20 @@ module _ (g : Limits) where
     read_cast (IsCast.unary {d = d} {ts = ts} {a = a} x) rest l = cast_run d (ts ++ rest) a rest (read_unary x rest l)
     read_cast (IsCast.cast {d = d} {at = at} {ts = ts} {us = us} o t to x) rest l =
         rw append_assoc (Runs.look (Runs.take (c.ok g at d o) (c.yes_ g begins_specifier _ _ (type_first t (mark m.CloseParen to ∷ (us ++ rest)))
-          (Runs.call (read_type_name t (mark m.CloseParen to ∷ (us ++ rest)) refl) (Runs.take (λ k. refl) (Runs.call (read_cast x rest l) Runs.give))))))
+        (Runs.call (read_type_name t (mark m.CloseParen to ∷ (us ++ rest)) refl) (Runs.take (λ k. refl) (Runs.call (read_cast x rest l) Runs.give))))))
 
     read_unary : {d : Level} {ts : List Placed} {a : ExpressionTree} → IsUnary g d ts a → (rest : List Placed) → 0 < level (first rest) → UnaryRun d (ts ++ rest) a rest
     read_unary (IsUnary.postfix {d = d} {ts = ts} {a = a} x) rest l =
         post_unary d (ts ++ rest) a rest (read_postfix x rest a rest (f.no_text (first rest) l) (postfix_over d a rest l))
     read_unary (IsUnary.step_before {d = d} {p = p} {op = op} {at = at} {ts = ts} {a = a} is o x) rest l =
         UnaryRun.plain (not_open p op is) (c.looked g (unary_by d) _ (unary_of_step d p op is)
-          (Runs.take (c.ok g at d o) (Runs.call (unary_run (suc d) (ts ++ rest) a rest (read_unary x rest l)) Runs.give)))
+        (Runs.take (c.ok g at d o) (Runs.call (unary_run (suc d) (ts ++ rest) a rest (read_unary x rest l)) Runs.give)))
     read_unary (IsUnary.prefix {d = d} {p = p} {op = op} {at = at} {ts = ts} {a = a} is o x) rest l =
         UnaryRun.plain (not_open_unary p op is) (c.looked g (unary_by d) _ (unary_of_prefix d p op is)
-          (Runs.take (c.ok g at d o) (Runs.call (read_cast x rest l) Runs.give)))
+        (Runs.take (c.ok g at d o) (Runs.call (read_cast x rest l) Runs.give)))
     read_unary (IsUnary.sizeof_type {d = d} {at = at} {from = from} {ts = ts} o p t to) rest l =
         UnaryRun.plain refl (rw append_assoc (Runs.look (Runs.take (c.ok g at d o) (Runs.look (Runs.take (c.ok g from (suc d) p)
-          (c.yes_ g begins_specifier _ _ (type_first t (mark m.CloseParen to ∷ rest)) (Runs.call (read_type_name t (mark m.CloseParen to ∷ rest) refl) (Runs.take (λ k. refl) Runs.give))))))))
+        (c.yes_ g begins_specifier _ _ (type_first t (mark m.CloseParen to ∷ rest)) (Runs.call (read_type_name t (mark m.CloseParen to ∷ rest) refl) (Runs.take (λ k. refl) Runs.give))))))))
     read_unary (IsUnary.sizeof_expression {d = d} {at = at} {ts = ts} {a = a} o x) rest l =
         UnaryRun.plain refl (Runs.look (Runs.take (c.ok g at d o) (sizeof_run d at (ts ++ rest) a rest (read_unary x rest l))))
 
@@ -382,21 +384,21 @@ module _ (g : Limits) where
     read_postfix (IsPostfix.primary x) rest y us h r = read_primary x rest y us h r
     read_postfix (IsPostfix.index {d = d} {ls = ls} {a = a} {at = at} {ts = ts} {b = b} x low o z to) rest y us h r =
         post_bracket d ls ts rest (mark m.OpenBracket at) (mark m.CloseBracket to) y us (read_postfix x (mark m.OpenBracket at ∷ (ts ++ (mark m.CloseBracket to ∷ rest))) y us refl
-          (Runs.look (Runs.take (c.low_ok g at a d low o)
-            (Runs.call (read_expression z (mark m.CloseBracket to ∷ rest) b (mark m.CloseBracket to ∷ rest) (omega arith) (comma_over (suc d) b (mark m.CloseBracket to ∷ rest) (omega arith)))
-              (Runs.take (λ k. refl) (c.reads_ g r))))))
+        (Runs.look (Runs.take (c.low_ok g at a d low o)
+        (Runs.call (read_expression z (mark m.CloseBracket to ∷ rest) b (mark m.CloseBracket to ∷ rest) (omega arith) (comma_over (suc d) b (mark m.CloseBracket to ∷ rest) (omega arith)))
+        (Runs.take (λ k. refl) (c.reads_ g r))))))
     read_postfix (IsPostfix.call {d = d} {ls = ls} {f = a} {ts = ts} x from low o z to) rest y us h r =
         post_bracket d ls ts rest (mark m.OpenParen from) (mark m.CloseParen to) y us (read_postfix x (mark m.OpenParen from ∷ (ts ++ (mark m.CloseParen to ∷ rest))) y us refl
-          (Runs.look (Runs.take (c.low_ok g from a d low o) (Runs.call (read_arguments z (mark m.CloseParen to ∷ rest) refl (omega arith)) (Runs.take (λ k. refl) (c.reads_ g r))))))
+        (Runs.look (Runs.take (c.low_ok g from a d low o) (Runs.call (read_arguments z (mark m.CloseParen to ∷ rest) refl (omega arith)) (Runs.take (λ k. refl) (c.reads_ g r))))))
     read_postfix (IsPostfix.member {d = d} {ls = ls} {a = a} {at = at} {x = n} x low next) rest y us h r =
         post_more d ls (mark m.Dot at ∷ identifier n next ∷ []) rest y us (read_postfix x (mark m.Dot at ∷ identifier n next ∷ rest) y us refl
-          (Runs.look (Runs.take (c.low g at a low) (Runs.call (identifier_read n next rest) (c.reads_ g r)))))
+        (Runs.look (Runs.take (c.low g at a low) (Runs.call (identifier_read n next rest) (c.reads_ g r)))))
     read_postfix (IsPostfix.arrow {d = d} {ls = ls} {a = a} {at = at} {x = n} x low next) rest y us h r =
         post_more d ls (mark m.Arrow at ∷ identifier n next ∷ []) rest y us (read_postfix x (mark m.Arrow at ∷ identifier n next ∷ rest) y us refl
-          (Runs.look (Runs.take (c.low g at a low) (Runs.call (identifier_read n next rest) (c.reads_ g r)))))
+        (Runs.look (Runs.take (c.low g at a low) (Runs.call (identifier_read n next rest) (c.reads_ g r)))))
     read_postfix (IsPostfix.step_after {d = d} {ls = ls} {a = a} {op = op} {at = at} x low p is) rest y us h r =
         post_more d ls (mark p at ∷ []) rest y us (read_postfix x (mark p at ∷ rest) y us refl
-          (c.looked g (postfix_by d a) _ (postfix_step d a p op is) (Runs.take (c.low g at a low) (c.reads_ g r))))
+        (c.looked g (postfix_by d a) _ (postfix_step d a p op is) (Runs.take (c.low g at a low) (c.reads_ g r))))
 
     read_arguments : {d : Level} {ts : List Placed} {a : ExpressionTrees} → AreArguments g d ts a → (rest : List Placed) → is_close_paren (first rest) ≡ true → 13 < level (first rest)
         → Runs g Sort.expressions (body (Rule.arguments d)) (ts ++ rest) (Outcome.read a rest)
@@ -420,9 +422,9 @@ module _ (g : Limits) where
     read_primary IsPrimary.eof rest y us h r = PostRun.plain refl (Runs.call (Runs.look (Runs.take (λ k. refl) Runs.give)) (c.reads_ g r))
     read_primary (IsPrimary.parenthesized {d = d} {at = at} {ts = ts} {a = a} o x to) rest y us h r =
         PostRun.parens at (ts ++ (mark m.CloseParen to ∷ rest)) (ap (λ z. mark m.OpenParen at ∷ z) (append_assoc ts (mark m.CloseParen to ∷ []) rest)) (c.ok g at d o)
-          (f.front_is begins_expression begins_specifier f.no_specifier ts (mark m.CloseParen to ∷ rest) (f.expression_front g x))
-          (Runs.call (Runs.call (read_expression x (mark m.CloseParen to ∷ rest) a (mark m.CloseParen to ∷ rest) (omega arith) (comma_over (suc d) a (mark m.CloseParen to ∷ rest) (omega arith)))
-            (Runs.take (λ k. refl) Runs.give)) (c.reads_ g r))
+        (f.front_is begins_expression begins_specifier f.no_specifier ts (mark m.CloseParen to ∷ rest) (f.expression_front g x))
+        (Runs.call (Runs.call (read_expression x (mark m.CloseParen to ∷ rest) a (mark m.CloseParen to ∷ rest) (omega arith) (comma_over (suc d) a (mark m.CloseParen to ∷ rest) (omega arith)))
+        (Runs.take (λ k. refl) Runs.give)) (c.reads_ g r))
 
     read_type_name : {d : Level} {ts : List Placed} {t : TypeNameTree} → IsTypeName g d ts t → (rest : List Placed) → is_close_paren (first rest) ≡ true
         → Runs g Sort.type_name (body (Rule.type_name d)) (ts ++ rest) (Outcome.read t rest)
@@ -435,14 +437,14 @@ module _ (g : Limits) where
         type_declarator_direct d e at ss ts rest n xs x y h (read_sizes y rest (no_size_behind (first rest) h))
     read_type_declarator (IsTypeDeclarator.nested {d = d} {e = e} {at = at} {ss = ss} {n = n} {first = q} {us = us} {inner = inner} {ts = ts} {sizes = xs} x from o t to y) rest h =
         type_declarator_nested d e at from to ss ts (q ∷ us) rest n inner xs x o (not_nothing (is_nothing inner) q us (is_something t))
-          (read_type_declarator t (mark m.CloseParen to ∷ (ts ++ rest)) refl) (read_sizes y rest (no_size_behind (first rest) h))
+        (read_type_declarator t (mark m.CloseParen to ∷ (ts ++ rest)) refl) (read_sizes y rest (no_size_behind (first rest) h))
 
     read_sizes : {d : Level} {ts : List Placed} {a : ExpressionTrees} → AreSizes g d ts a → (rest : List Placed) → is_open_bracket (first rest) ≡ false
         → Runs g Sort.expressions (body (Rule.sizes d)) (ts ++ rest) (Outcome.read a rest)
     read_sizes AreSizes.no_size rest h = c.no_ g is_open_bracket _ _ h Runs.give
     read_sizes (AreSizes.size {d = d} {at = at} {cs = cs} {ts = ts} o x to xs) rest h =
         rw append_assoc (c.yes_ g is_open_bracket _ _ refl (Runs.take (c.ok g at d o) (Runs.call (read_conditional x (mark m.CloseBracket to ∷ (ts ++ rest)) (omega arith))
-          (Runs.take (λ k. refl) (Runs.call (read_sizes xs rest h) Runs.give)))))
+        (Runs.take (λ k. refl) (Runs.call (read_sizes xs rest h) Runs.give)))))
 
   pub expression : {d : Level} {ts : List Placed} {a : ExpressionTree} → IsExpression g d ts a → (rest : List Placed) → 13 < level (first rest)
       → Runs g Sort.expression (body (Rule.expression d)) (ts ++ rest) (Outcome.read a rest)

@@ -1,22 +1,22 @@
 -- What the grammar of statements and files derives is read.
-use Rattle.std.proofs.Common.{◌≡◌, ℕ, zero, suc, ◌≤◌, ◌<◌, ◌+◌, Bool, true, false, cond, ◌&&◌, List, [], ◌∷◌, ◌++◌, Option, Some, None, refl, sym, ap, ◌∙◌, subst, append_assoc, arith}
+use Rattle.std.proofs.Common.{◌≡◌, suc, ◌<◌, Bool, true, false, cond, List, [], ◌∷◌, ◌++◌, Option, Some, refl, ap, ◌∙◌, subst, append_assoc, arith}
 use Rattle.std.proofs.lemmas.Bool.{false≢true}
 use Rattle.std.proofs.lemmas.List.{append-nil}
 use Rattle.c_words.specs.Tokens.{Token, Placed}
 use Rattle.c_words.specs.declared.place.At.{At}
 use Rattle.c_words.specs.declared.words.Reserved.TheVariants as w
 use Rattle.c_words.specs.declared.words.Punctuator.TheVariants as m
-use Rattle.c_tree.specs.Syntax.{ExpressionTree, InitDeclaratorTree, MemberDeclarationTree, ForStartTree, StatementTree, BlockTree, BlockItemTree, BlockItemTrees, HeadTree, ExternalTree, UnitTree}
+use Rattle.c_tree.specs.Syntax.{ExpressionTree, InitDeclaratorTree, ForStartTree, StatementTree, BlockTree, BlockItemTree, BlockItemTrees, HeadTree, ExternalTree, UnitTree}
 use Rattle.c_tree.specs.GrammarLimits.{Limits, Level, Opens}
-use Rattle.c_tree.specs.GrammarTokens.{mark, word, identifier, first_at, Optional, Many, Commas}
+use Rattle.c_tree.specs.GrammarTokens.{mark, word, first_at, Optional, Many, Commas}
 use Rattle.c_tree.specs.GrammarExpressions.{IsSpecifier, IsExpression}
-use Rattle.c_tree.specs.GrammarDeclarations.{IsDeclarator, IsInitDeclarator, IsDeclaration, IsMember, IsStructDefinition}
+use Rattle.c_tree.specs.GrammarDeclarations.{IsInitDeclarator, IsDeclaration, IsStructDefinition}
 use Rattle.c_tree.specs.GrammarStatements.{IsForStart, IsStatement, IsBlock, AreItems, IsItem}
 use Rattle.c_tree.specs.Grammar.{start_of_file, IsHead, IsExternal, Derives}
-use Rattle.c_parser.specs.Programs.{Sort, Value, Rule, Program, Outcome}
+use Rattle.c_parser.specs.Programs.{Sort, Rule, Program, Outcome}
 use Rattle.c_parser.specs.Tests.{first, is_some, is_semicolon, is_close_paren, is_open_brace, is_close_brace, goes_on, is_else, begins_expression, begins_specifier, begins_statement, begins_suffix, opens}
-use Rattle.c_parser.specs.Bodies.{body, else_by, do_by, value_statement, statement_by, head_by, unit_by}
-use Rattle.c_parser.specs.Runs.{Runs, token_at}
+use Rattle.c_parser.specs.Bodies.{body, else_by, do_by, value_statement, statement_by}
+use Rattle.c_parser.specs.Runs.{Runs}
 use Rattle.c_parser.proofs.CompleteSteps as c
 use Rattle.c_parser.proofs.Follow as f
 use Rattle.c_parser.proofs.Follow.{Front, level}
@@ -155,7 +155,7 @@ module _ (g : Limits) where
   for_start_read (IsForStart.declaration x) rest = let i = decl.declaration_read g x rest in c.yes_ g begins_specifier _ _ i.0 (Runs.call i.1 Runs.give)
   for_start_read (IsForStart.expression {d = l} {ts = ts} x to) rest =
       rw append_assoc (c.no_ g begins_specifier _ _ (no_word x)
-        (Runs.call (optional_value is_semicolon not_semicolon l (mark m.Semicolon to ∷ rest) refl (omega arith) x) (Runs.take (λ k. refl) Runs.give)))
+      (Runs.call (optional_value is_semicolon not_semicolon l (mark m.Semicolon to ∷ rest) refl (omega arith) x) (Runs.take (λ k. refl) Runs.give)))
     where
       no_word : {ts : List Placed} {x : Option ExpressionTree} → Optional (IsExpression g l) ts x → begins_specifier (first (ts ++ (mark m.Semicolon to ∷ rest))) ≡ false
       no_word Optional.absent = refl
@@ -168,8 +168,8 @@ module _ (g : Limits) where
       by : Front begins_expression ts → Runs g Sort.statement (body (Rule.statement d)) ((ts ++ (mark m.Semicolon to ∷ [])) ++ rest) (Outcome.read (StatementTree.Expression (first_at ts to) a, false) rest)
       by front = rw front.2 (rw append_assoc (c.looked g (statement_by d) _ (as_value d front.0.token front.3)
           (Runs.ahead {c = front.0.token} {at = front.0.at} (λ k. refl)
-            (Runs.call (subst (λ z. Runs g Sort.expression (body (Rule.expression d)) (z ++ (mark m.Semicolon to ∷ rest)) (Outcome.read a (mark m.Semicolon to ∷ rest))) front.2
-              (e.expression g x (mark m.Semicolon to ∷ rest) (omega arith))) (Runs.take (λ k. refl) Runs.give)))))
+          (Runs.call (subst (λ z. Runs g Sort.expression (body (Rule.expression d)) (z ++ (mark m.Semicolon to ∷ rest)) (Outcome.read a (mark m.Semicolon to ∷ rest))) front.2
+          (e.expression g x (mark m.Semicolon to ∷ rest) (omega arith))) (Runs.take (λ k. refl) Runs.give)))))
 
   abbrev Closes : Bool → List Placed → Type 0
   Closes b rest = b ≡ true → is_else (first rest) ≡ false
@@ -177,7 +177,7 @@ module _ (g : Limits) where
   -- the body of a `do`, and what follows
   do_read : (d : Level) (at again from to end : At) (ts cs rest : List Placed) (x : StatementTree) (b : Bool) (a : ExpressionTree) → Opens g (first_at ts again) d → Front begins_statement ts
       → Runs g Sort.statement (body (Rule.statement (suc d))) (ts ++ (word w.While again ∷ mark m.OpenParen from ∷ (cs ++ (mark m.CloseParen to ∷ mark m.Semicolon end ∷ rest))))
-        (Outcome.read (x, b) (word w.While again ∷ mark m.OpenParen from ∷ (cs ++ (mark m.CloseParen to ∷ mark m.Semicolon end ∷ rest))))
+      (Outcome.read (x, b) (word w.While again ∷ mark m.OpenParen from ∷ (cs ++ (mark m.CloseParen to ∷ mark m.Semicolon end ∷ rest))))
       → Runs g Sort.expression (body (Rule.expression (suc d))) (cs ++ (mark m.CloseParen to ∷ mark m.Semicolon end ∷ rest)) (Outcome.read a (mark m.CloseParen to ∷ mark m.Semicolon end ∷ rest))
       → Runs g Sort.statement (Program.look (do_by d at)) (ts ++ (word w.While again ∷ mark m.OpenParen from ∷ (cs ++ (mark m.CloseParen to ∷ mark m.Semicolon end ∷ rest)))) (Outcome.read (StatementTree.DoWhile at x a, false) rest)
   do_read d at again from to end [] cs rest x b a o front r q = absurd (let e = front.2 in (cc))
@@ -185,9 +185,9 @@ module _ (g : Limits) where
       let is : t ≡ front.0 = (let e = front.2 in (cc)) in
       let begins : begins_statement t.token ≡ true = ap (λ z. begins_statement z.token) is ∙ front.3 in
       c.looked g (do_by d at) (Program.ahead t.token (opens d) (λ from. Program.call (Rule.statement (suc d)) (λ x. Program.take (Token.Word w.While) true (λ again. Program.take (Token.Mark m.OpenParen) true (λ from.
-          Program.call (Rule.expression (suc d)) (λ c. Program.take (Token.Mark m.CloseParen) true (λ to. Program.take (Token.Mark m.Semicolon) true (λ end. Program.give (StatementTree.DoWhile at x.0 c, false)))))))))
-        (rw begins refl)
-        (Runs.ahead {c = t.token} {at = t.at} (c.ok g t.at d o) (Runs.call r (Runs.take (λ k. refl) (Runs.take (λ k. refl) (Runs.call q (Runs.take (λ k. refl) (Runs.take (λ k. refl) Runs.give)))))))
+      Program.call (Rule.expression (suc d)) (λ c. Program.take (Token.Mark m.CloseParen) true (λ to. Program.take (Token.Mark m.Semicolon) true (λ end. Program.give (StatementTree.DoWhile at x.0 c, false)))))))))
+      (rw begins refl)
+      (Runs.ahead {c = t.token} {at = t.at} (c.ok g t.at d o) (Runs.call r (Runs.take (λ k. refl) (Runs.take (λ k. refl) (Runs.call q (Runs.take (λ k. refl) (Runs.take (λ k. refl) Runs.give)))))))
 
   block_statement : (d : Level) (ts : List Placed) (x : BlockTree) (rest : List Placed) → IsBlock g d ts x → Runs g Sort.block (body (Rule.block d)) (ts ++ rest) (Outcome.read x rest)
       → Runs g Sort.statement (body (Rule.statement d)) (ts ++ rest) (Outcome.read (StatementTree.Block x, false) rest)
@@ -206,23 +206,23 @@ module _ (g : Limits) where
     read_statement (IsStatement.expression {d = d} {ts = ts} {a = a} x to) rest closes = value_read d ts a to x rest
     read_statement (IsStatement.only_if {d = d} {at = at} {from = from} {cs = cs} {c = a} {ts = ts} o x to y) rest closes =
         rw append_assoc (Runs.look (Runs.take (λ k. refl) (Runs.take (c.ok g from d o) (Runs.call (e.expression g x (mark m.CloseParen to ∷ (ts ++ rest)) (omega arith)) (Runs.take (λ k. refl)
-          (Runs.call (read_statement y rest (λ k. closes refl)) (only_if d at a _ _ rest (closes refl))))))))
+        (Runs.call (read_statement y rest (λ k. closes refl)) (only_if d at a _ _ rest (closes refl))))))))
     read_statement (IsStatement.if_else {d = d} {at = at} {from = from} {cs = cs} {c = a} {ts = ts} {us = us} o x to y other z) rest closes =
         rw (append_assoc, append_assoc) (Runs.look (Runs.take (λ k. refl) (Runs.take (c.ok g from d o) (Runs.call (e.expression g x (mark m.CloseParen to ∷ (ts ++ (word w.Else other ∷ (us ++ rest)))) (omega arith)) (Runs.take (λ k. refl)
-          (Runs.call (read_statement y (word w.Else other ∷ (us ++ rest)) (λ k. absurd (false≢true k))) (c.yes_ g is_else _ _ refl (Runs.take (λ k. refl) (Runs.call (read_statement z rest closes) Runs.give)))))))))
+        (Runs.call (read_statement y (word w.Else other ∷ (us ++ rest)) (λ k. absurd (false≢true k))) (c.yes_ g is_else _ _ refl (Runs.take (λ k. refl) (Runs.call (read_statement z rest closes) Runs.give)))))))))
     read_statement (IsStatement.while {d = d} {at = at} {from = from} {cs = cs} {c = a} {ts = ts} o x to y) rest closes =
         rw append_assoc (Runs.look (Runs.take (λ k. refl) (Runs.take (c.ok g from d o) (Runs.call (e.expression g x (mark m.CloseParen to ∷ (ts ++ rest)) (omega arith)) (Runs.take (λ k. refl)
-          (Runs.call (read_statement y rest closes) Runs.give))))))
+        (Runs.call (read_statement y rest closes) Runs.give))))))
     read_statement (IsStatement.do_while {d = d} {at = at} {b = b} {ts = ts} {x = x} {cs = cs} {c = a} again from o y z to end) rest closes =
         rw (append_assoc, append_assoc) (Runs.look (Runs.take (λ k. refl) (do_read d at again from to end ts cs rest x b a o (statement_front y)
-          (read_statement y (word w.While again ∷ mark m.OpenParen from ∷ (cs ++ (mark m.CloseParen to ∷ mark m.Semicolon end ∷ rest))) (λ k. refl))
-          (e.expression g z (mark m.CloseParen to ∷ mark m.Semicolon end ∷ rest) (omega arith)))))
+        (read_statement y (word w.While again ∷ mark m.OpenParen from ∷ (cs ++ (mark m.CloseParen to ∷ mark m.Semicolon end ∷ rest))) (λ k. refl))
+        (e.expression g z (mark m.CloseParen to ∷ mark m.Semicolon end ∷ rest) (omega arith)))))
     read_statement (IsStatement.for {d = d} {at = at} {from = from} {ss = ss} {cs = cs} {us = us} {ts = ts} o x y middle z to v) rest closes =
         rw (append_assoc, append_assoc, append_assoc) (Runs.look (Runs.take (λ k. refl) (Runs.take (c.ok g from d o)
-          (Runs.call (for_start_read x (cs ++ (mark m.Semicolon middle ∷ (us ++ (mark m.CloseParen to ∷ (ts ++ rest))))))
-            (Runs.call (optional_value is_semicolon not_semicolon (suc d) (mark m.Semicolon middle ∷ (us ++ (mark m.CloseParen to ∷ (ts ++ rest)))) refl (omega arith) y) (Runs.take (λ k. refl)
-              (Runs.call (optional_value is_close_paren not_close (suc d) (mark m.CloseParen to ∷ (ts ++ rest)) refl (omega arith) z) (Runs.take (λ k. refl)
-                (Runs.call (read_statement v rest closes) Runs.give)))))))))
+        (Runs.call (for_start_read x (cs ++ (mark m.Semicolon middle ∷ (us ++ (mark m.CloseParen to ∷ (ts ++ rest))))))
+        (Runs.call (optional_value is_semicolon not_semicolon (suc d) (mark m.Semicolon middle ∷ (us ++ (mark m.CloseParen to ∷ (ts ++ rest)))) refl (omega arith) y) (Runs.take (λ k. refl)
+        (Runs.call (optional_value is_close_paren not_close (suc d) (mark m.CloseParen to ∷ (ts ++ rest)) refl (omega arith) z) (Runs.take (λ k. refl)
+        (Runs.call (read_statement v rest closes) Runs.give)))))))))
     read_statement IsStatement.break rest closes = Runs.look (Runs.take (λ k. refl) (Runs.take (λ k. refl) Runs.give))
     read_statement IsStatement.continue rest closes = Runs.look (Runs.take (λ k. refl) (Runs.take (λ k. refl) Runs.give))
     read_statement (IsStatement.return {d = d} {ts = ts} x to) rest closes =
@@ -237,7 +237,7 @@ module _ (g : Limits) where
     read_items AreItems.no_item rest h = c.yes_ g is_close_brace _ _ h Runs.give
     read_items (AreItems.item {ts = ts} {us = us} x xs) rest h =
         rw append_assoc (c.no_ g is_close_brace _ _ (f.front_is begins_item is_close_brace item_brace ts (us ++ rest) (item_front x))
-          (Runs.call (read_item x (us ++ rest) (items_else xs rest h)) (Runs.call (read_items xs rest h) Runs.give)))
+        (Runs.call (read_item x (us ++ rest) (items_else xs rest h)) (Runs.call (read_items xs rest h) Runs.give)))
 
     read_item : {d : Level} {ts : List Placed} {x : BlockItemTree} → IsItem g d ts x → (rest : List Placed) → is_else (first rest) ≡ false
         → Runs g Sort.block_item (body (Rule.item d)) (ts ++ rest) (Outcome.read x rest)
@@ -259,11 +259,13 @@ module _ (g : Limits) where
   head_read (IsHead.specifier (IsSpecifier.struct {next = next} {tag = tag})) rest h b =
       (refl, Runs.look (Runs.take (λ k. refl) (Runs.call (e.identifier_read g tag next rest) (c.no_ g is_open_brace _ _ b Runs.give))))
   head_read (IsHead.structure {d = d} (IsStructDefinition.structure {at = at} {open_at = from} {tag = tag} o (Many.more {ts = ts} {us = us} i is) to)) rest h b =
-      let one = decl.member_read g (suc d) ts _ i (us ++ (mark m.CloseBrace to ∷ rest)) in
-      (refl, rw (append_assoc, append_assoc) (Runs.look (Runs.take (λ k. refl) (Runs.call (e.identifier_read g tag at (mark m.OpenBrace from ∷ (ts ++ (us ++ (mark m.CloseBrace to ∷ rest)))))
-        (c.yes_ g is_open_brace _ _ refl (Runs.take (c.ok g from d o) (Runs.call one.1
-          (Runs.call (decl.many_read g goes_on (Rule.member (suc d)) (λ ts x i rest. let j = decl.member_read g (suc d) ts x i rest in ((word_goes _ j.0).0, j.1)) is (mark m.CloseBrace to ∷ rest) refl)
-            (Runs.take (λ k. refl) Runs.give)))))))))
+      let one = decl.member_read g (suc d) ts _ i (us ++ (mark m.CloseBrace to ∷ rest)) in (
+        refl,
+        rw (append_assoc, append_assoc) (Runs.look (Runs.take (λ k. refl) (Runs.call (e.identifier_read g tag at (mark m.OpenBrace from ∷ (ts ++ (us ++ (mark m.CloseBrace to ∷ rest)))))
+            (c.yes_ g is_open_brace _ _ refl (Runs.take (c.ok g from d o) (Runs.call one.1
+            (Runs.call (decl.many_read g goes_on (Rule.member (suc d)) (λ ts x i rest. let j = decl.member_read g (suc d) ts x i rest in ((word_goes _ j.0).0, j.1)) is (mark m.CloseBrace to ∷ rest) refl)
+            (Runs.take (λ k. refl) Runs.give)))))))),
+      )
 
   block_first : {d : Level} {ts : List Placed} {x : BlockTree} → IsBlock g d ts x → (rest : List Placed) → (begins_suffix (first (ts ++ rest)) ≡ false) × (is_open_brace (first (ts ++ rest)) ≡ true)
   block_first (IsBlock.braces o xs to) rest = (refl, refl)
@@ -271,16 +273,16 @@ module _ (g : Limits) where
   -- declarators with their initializers, the first of them read before the others
   listed_read : {d : Level} {ts : List Placed} {xs : List InitDeclaratorTree} → Commas (IsInitDeclarator g d) ts xs → (at to : At) (h : HeadTree) (rest : List Placed)
       → Runs g Sort.external (Program.call (Rule.declarator d) (λ t. Program.look (λ c. cond (is_open_brace c)
-          (Program.call (Rule.block d) (λ x. Program.give (ExternalTree.Function at h t x)))
-          (Program.call (Rule.init_rest d t) (λ i. Program.call (Rule.commas_rest (Rule.init_declarator d) i) (λ xs. Program.take (Token.Mark m.Semicolon) true (λ to. Program.give (ExternalTree.Declaration at h xs))))))))
-        (ts ++ (mark m.Semicolon to ∷ rest)) (Outcome.read (ExternalTree.Declaration at h xs) rest)
+      (Program.call (Rule.block d) (λ x. Program.give (ExternalTree.Function at h t x)))
+      (Program.call (Rule.init_rest d t) (λ i. Program.call (Rule.commas_rest (Rule.init_declarator d) i) (λ xs. Program.take (Token.Mark m.Semicolon) true (λ to. Program.give (ExternalTree.Declaration at h xs))))))))
+      (ts ++ (mark m.Semicolon to ∷ rest)) (Outcome.read (ExternalTree.Declaration at h xs) rest)
   listed_read {d = d} (Commas.last {ts = ts} {x = x} i) at to h rest =
       let p = decl.init_parts g d ts x i (mark m.Semicolon to ∷ rest) refl in
       Runs.call p.declared (c.no_ g is_open_brace _ _ p.brace (Runs.call p.ended (Runs.call (Runs.look Runs.give) (Runs.take (λ k. refl) Runs.give))))
   listed_read {d = d} (Commas.next {ts = ts} {x = x} {us = us} i comma is) at to h rest =
       let p = decl.init_parts g d ts x i (mark m.Comma comma ∷ (us ++ (mark m.Semicolon to ∷ rest))) refl in
       rw append_assoc (Runs.call p.declared (c.no_ g is_open_brace _ _ p.brace (Runs.call p.ended
-        (Runs.call (Runs.look (Runs.take (λ k. refl) (Runs.call (decl.inits_read g is to rest) Runs.give))) (Runs.take (λ k. refl) Runs.give)))))
+      (Runs.call (Runs.look (Runs.take (λ k. refl) (Runs.call (decl.inits_read g is to rest) Runs.give))) (Runs.take (λ k. refl) Runs.give)))))
 
   external_read : (d : Level) (ts : List Placed) (x : ExternalTree) → IsExternal g d ts x → (rest : List Placed)
       → (is_some (first (ts ++ rest)) ≡ true) × Runs g Sort.external (body (Rule.external d)) (ts ++ rest) (Outcome.read x rest)
@@ -291,13 +293,19 @@ module _ (g : Limits) where
       let front = decl.declarator_front g t in
       let i = head_read h (ts ++ (us ++ rest)) (f.front_is begins_declarator begins_specifier (decl.no_word g) ts (us ++ rest) front) (f.front_is begins_declarator is_open_brace declarator_brace ts (us ++ rest) front) in
       let j = block_first b rest in
-      rw (append_assoc, append_assoc) ((word_goes _ i.0).1, Runs.call i.1 (c.no_ g is_semicolon _ _ (f.front_is begins_declarator is_semicolon declarator_semicolon ts (us ++ rest) front)
-        (Runs.call (decl.declarator_read g t (us ++ rest) j.0) (c.yes_ g is_open_brace _ _ j.1 (Runs.call (read_block b rest) Runs.give)))))
+      rw (append_assoc, append_assoc) (
+        (word_goes _ i.0).1,
+        Runs.call i.1 (c.no_ g is_semicolon _ _ (f.front_is begins_declarator is_semicolon declarator_semicolon ts (us ++ rest) front)
+            (Runs.call (decl.declarator_read g t (us ++ rest) j.0) (c.yes_ g is_open_brace _ _ j.1 (Runs.call (read_block b rest) Runs.give)))),
+      )
   external_read d _ _ (IsExternal.listed {at = at} {hs = hs} {h = h} {ts = ts} x y to) rest =
       let front = decl.inits_front g y in
       let i = head_read x (ts ++ (mark m.Semicolon to ∷ rest)) (f.front_is begins_declarator begins_specifier (decl.no_word g) ts (mark m.Semicolon to ∷ rest) front) (f.front_is begins_declarator is_open_brace declarator_brace ts (mark m.Semicolon to ∷ rest) front) in
-      rw (append_assoc, append_assoc) ((word_goes _ i.0).1, Runs.call i.1 (c.no_ g is_semicolon _ _ (f.front_is begins_declarator is_semicolon declarator_semicolon ts (mark m.Semicolon to ∷ rest) front)
-        (listed_read y at to h rest)))
+      rw (append_assoc, append_assoc) (
+        (word_goes _ i.0).1,
+        Runs.call i.1 (c.no_ g is_semicolon _ _ (f.front_is begins_declarator is_semicolon declarator_semicolon ts (mark m.Semicolon to ∷ rest) front)
+            (listed_read y at to h rest)),
+      )
 
   -- what the grammar derives is read
   pub complete : (ts : List Placed) (unit : UnitTree) → Derives g ts unit → Runs g Sort.unit (body Rule.unit) ts (Outcome.read unit [])

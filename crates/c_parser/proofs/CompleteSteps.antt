@@ -1,16 +1,16 @@
 -- Steps of runs.
-use Rattle.std.proofs.Common.{◌≡◌, ℕ, zero, suc, ◌≤◌, ◌<◌, ◌+◌, Bool, true, false, cond, ◌&&◌, nat_lt, List, [], ◌∷◌, ◌++◌, Option, Some, None, refl, sym, ap, ◌∙◌, subst, arith}
+use Rattle.std.proofs.Common.{◌≡◌, ℕ, ◌<◌, Bool, true, false, cond, ◌&&◌, nat_lt, List, Option, sym, subst, arith}
 use Rattle.std.proofs.lemmas.Bool.{false≢true}
 use Rattle.std.proofs.lemmas.Bool.Decides.{nat_tests}
 use Rattle.c_words.specs.Tokens.{Token, Placed}
 use Rattle.c_words.specs.declared.place.At.{At}
 use Rattle.c_tree.specs.Syntax.{ExpressionTree}
 use Rattle.c_tree.specs.SyntaxHeights.{height}
-use Rattle.c_tree.specs.GrammarLimits.{Limits, Level, Opens, IsLow}
+use Rattle.c_tree.specs.GrammarLimits.{Limits, Opens, IsLow}
 use Rattle.c_parser.specs.Programs.{Sort, Value, Rule, Program, Outcome}
 use Rattle.c_parser.specs.Tests.{first, opens, is_low}
 use Rattle.c_parser.specs.Bodies.{body, when, reads}
-use Rattle.c_parser.specs.Runs.{Runs, token_at}
+use Rattle.c_parser.specs.Runs.{Runs}
 use Rattle.c_parser.proofs.RunsLaws.{came, Called}
 
 pub is_less : (a b : ℕ) → a < b → nat_lt a b ≡ true
@@ -45,5 +45,6 @@ module _ (g : Limits) where
   -- the parts of a run
   pub unreads : {s : Sort} {r : Rule s} {ts us : List Placed} {x : Value s} → Runs g s (reads r) ts (Outcome.read x us) → Runs g s (body r) ts (Outcome.read x us)
   unreads {s = s} {r = r} {ts = ts} {us = us} {x = x} h = elim (came g _ _ _ _ h) [
-      Called.called y vs a n ↦ subst (λ o. Runs g s (body r) ts o) (sym (came g _ _ _ _ n)) a
-    | Called.failed why vs a e ↦ absurd (cc) ]
+    | Called.called y vs a n ↦ subst (λ o. Runs g s (body r) ts o) (sym (came g _ _ _ _ n)) a
+    | Called.failed why vs a e ↦ absurd (cc)
+  ]

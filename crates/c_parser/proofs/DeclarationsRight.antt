@@ -1,29 +1,22 @@
 -- The rules for declarations and statements read what stands for their values; and so each rule does.
-use Rattle.std.proofs.Common.{◌≡◌, ℕ, zero, suc, ◌≤◌, ◌<◌, ◌+◌, Bool, true, false, cond, ◌&&◌, ◌==◌, List, [], ◌∷◌, ◌++◌, length, Option, Some, None, refl, sym, ap, ◌∙◌, subst, append_assoc, arith}
+use Rattle.std.proofs.Common.{◌≡◌, ℕ, zero, suc, ◌+◌, Bool, true, false, cond, ◌&&◌, List, [], ◌∷◌, ◌++◌, Option, Some, None, refl, sym, ap, ◌∙◌, subst, append_assoc}
 use Rattle.std.proofs.lemmas.List.{append-nil}
 use Rattle.std.proofs.lemmas.Bool.{false≢true}
-use Rattle.std.proofs.lemmas.Bool.Decides.{nat_tests, eqb_tells}
 use Rattle.c_words.specs.Tokens.{Token, Placed}
 use Rattle.c_words.specs.declared.place.At.{At}
 use Rattle.c_words.specs.declared.words.Reserved.TheVariants as w
-use Rattle.c_words.specs.declared.words.Punctuator.{Punctuator}
 use Rattle.c_words.specs.declared.words.Punctuator.TheVariants as m
-use Rattle.c_words.specs.declared.operators.UnaryOperator.{UnaryOperator}
-use Rattle.c_words.specs.declared.operators.StepOperator.{StepOperator}
-use Rattle.c_words.specs.declared.operators.BinaryOperator.{BinaryOperator}
-use Rattle.c_words.specs.declared.operators.AssignOperator.{AssignOperator}
 use Rattle.c_tree.specs.declared.syntax.specifiers.Specifier.{Specifier}
-use Rattle.c_tree.specs.declared.syntax.specifiers.Specifier.TheVariants as s
-use Rattle.c_tree.specs.Syntax.{ExpressionTree, ExpressionTrees, TypeNameTree, TypeDeclaratorTree, ParameterDeclaratorTree, ParameterTree, ParametersTree, SuffixTree, DeclaratorTree, InitializerTree, InitializerTrees, InitDeclaratorTree, ForStartTree, StatementTree, BlockTree, BlockItemTree, BlockItemTrees, HeadTree, ExternalTree}
+use Rattle.c_tree.specs.Syntax.{ExpressionTree, ExpressionTrees, TypeDeclaratorTree, ParameterDeclaratorTree, ParameterTree, ParametersTree, DeclaratorTree, InitializerTree, InitializerTrees, InitDeclaratorTree, ForStartTree, StatementTree, BlockTree, BlockItemTrees, HeadTree, ExternalTree}
 use Rattle.c_tree.specs.GrammarLimits.{Limits, Level, Opens}
-use Rattle.c_tree.specs.GrammarTokens.{mark, word, identifier, first_at, Optional, Many, Commas, AreStrings, binary_operator, assign_operator, unary_operator, step_operator, weakest}
+use Rattle.c_tree.specs.GrammarTokens.{mark, word, identifier, first_at, Optional, Many, Commas, AreStrings}
 use Rattle.c_tree.specs.GrammarExpressions.{IsSpecifier, AreStars, IsExpression, IsAssignment, IsConditional, IsBinary, IsCast, IsUnary, IsPostfix, IsPrimary, AreArguments, AreListed, IsTypeName, IsTypeDeclarator, AreSizes}
 use Rattle.c_tree.specs.GrammarDeclarations.{is_lone_void, parameter_declarator_at, declarator_at, IsArray, IsParameterDeclarator, IsParameter, AreParameters, IsSuffix, IsDeclarator, IsInitializer, AreParts, IsInitDeclarator, IsDeclaration, IsMember, IsStructDefinition}
 use Rattle.c_tree.specs.GrammarStatements.{IsForStart, IsStatement, IsBlock, AreItems, IsItem}
-use Rattle.c_tree.specs.Grammar.{start_of_file, IsHead, IsExternal, Derives}
+use Rattle.c_tree.specs.Grammar.{IsHead, IsExternal, Derives}
 use Rattle.c_parser.specs.Programs.{Sort, Value, Rule, Program}
-use Rattle.c_parser.specs.Tests.{is_end, is_some, is_comma, is_semicolon, is_question, is_equal, is_star, is_open_paren, is_close_paren, is_open_bracket, is_close_bracket, is_open_brace, is_close_brace, goes_on, is_else, is_int, begins_specifier, begins_expression, begins_statement, begins_suffix, at_strength, operator, with_mark, assigns, opens, is_low}
-use Rattle.c_parser.specs.Bodies.{body, identifier_by, strings_by, unsigned_by, specifier_by, assign_by, binary_by, cast_by, sizeof_by, unary_mark, unary_by, postfix_by, primary_by, is_nothing, is_no_declarator, is_void, parameters_of, parameter_declarator_by, declarator_by, else_by, do_by, value_statement, statement_by, head_by, unit_by}
+use Rattle.c_parser.specs.Tests.{is_some, is_comma, is_semicolon, is_question, is_equal, is_star, is_open_paren, is_close_paren, is_open_bracket, is_open_brace, is_close_brace, is_else, begins_specifier, begins_expression, begins_statement, operator, assigns, opens}
+use Rattle.c_parser.specs.Bodies.{body, is_nothing, is_no_declarator, is_void, parameters_of, parameter_declarator_by, declarator_by, else_by, do_by, value_statement, statement_by, head_by, unit_by}
 use Rattle.c_parser.specs.Runs.{token_at}
 use Rattle.c_parser.proofs.Meanings.{Means, Parts}
 use Rattle.c_parser.proofs.Soundness.{Rel, Sample, Begins, Free, Proves, Good}
@@ -128,41 +121,41 @@ module _ (g : Limits) where
   inner_right : (d e : Level) (at from : At) (ss : List Placed) (n : ℕ) → AreStars g d e ss n → Opens g from e → (inner : TypeDeclaratorTree) (us : List Placed)
       → IsTypeDeclarator g (suc e) at us inner → (b : Bool) → is_nothing inner ≡ b
       → (Free g → Sample (λ ts. IsTypeDeclarator g d at (ss ++ (mark m.OpenParen from ∷ (us ++ ts)))))
-        × P Sort.type_declarator (cond b Program.refuse (Program.take (Token.Mark m.CloseParen) true (λ to. Program.call (Rule.sizes e) (λ sizes. Program.give (TypeDeclaratorTree.Nested at n inner sizes)))))
-          (λ ts. IsTypeDeclarator g d at (ss ++ (mark m.OpenParen from ∷ (us ++ ts))))
+      × P Sort.type_declarator (cond b Program.refuse (Program.take (Token.Mark m.CloseParen) true (λ to. Program.call (Rule.sizes e) (λ sizes. Program.give (TypeDeclaratorTree.Nested at n inner sizes)))))
+      (λ ts. IsTypeDeclarator g d at (ss ++ (mark m.OpenParen from ∷ (us ++ ts))))
   inner_right d e at from ss n h op inner us i true is =
       (λ free. subst (λ z. Sample (λ ts. IsTypeDeclarator g d at (ss ++ (mark m.OpenParen from ∷ (z ++ ts))))) (sym (nothing i is)) (starred free d at from ss n e h op), Proves.refuse)
   inner_right d e at from ss n h op inner us i false is =
       let p : P Sort.type_declarator (Program.take (Token.Mark m.CloseParen) true (λ to. Program.call (Rule.sizes e) (λ sizes. Program.give (TypeDeclaratorTree.Nested at n inner sizes))))
-            (λ ts. IsTypeDeclarator g d at (ss ++ (mark m.OpenParen from ∷ (us ++ ts)))) =
-          takes (λ at. refl) (λ to k. last (λ sizes zs z. nested_type d e at from to ss us zs n inner sizes h op i (something i is) z)) in
+      (λ ts. IsTypeDeclarator g d at (ss ++ (mark m.OpenParen from ∷ (us ++ ts)))) =
+      takes (λ at. refl) (λ to k. last (λ sizes zs z. nested_type d e at from to ss us zs n inner sizes h op i (something i is) z)) in
       (o.completes g (samples g) _ _ _ p refl, p)
 
   inner_parameter_right : (d e : Level) (at from : At) (ss : List Placed) (n : ℕ) → AreStars g d e ss n → Opens g from e → (inner : ParameterDeclaratorTree) (us : List Placed)
       → IsParameterDeclarator g (suc e) at us inner → (b : Bool) → is_no_declarator inner ≡ b
       → (Free g → Sample (λ ts. IsParameterDeclarator g d at (ss ++ (mark m.OpenParen from ∷ (us ++ ts)))))
-        × P Sort.parameter_declarator (cond b Program.refuse (Program.take (Token.Mark m.CloseParen) true (λ to. Program.call (Rule.repeat is_open_bracket (Rule.array e)) (λ arrays.
-          Program.give (ParameterDeclaratorTree.Nested (parameter_declarator_at inner) n inner arrays)))))
-          (λ ts. IsParameterDeclarator g d at (ss ++ (mark m.OpenParen from ∷ (us ++ ts))))
+      × P Sort.parameter_declarator (cond b Program.refuse (Program.take (Token.Mark m.CloseParen) true (λ to. Program.call (Rule.repeat is_open_bracket (Rule.array e)) (λ arrays.
+      Program.give (ParameterDeclaratorTree.Nested (parameter_declarator_at inner) n inner arrays)))))
+      (λ ts. IsParameterDeclarator g d at (ss ++ (mark m.OpenParen from ∷ (us ++ ts))))
   inner_parameter_right d e at from ss n h op inner us i true is =
       (λ free. subst (λ z. Sample (λ ts. IsParameterDeclarator g d at (ss ++ (mark m.OpenParen from ∷ (z ++ ts))))) (sym (no_declarator i is)) (starred_parameter free d at from ss n e h op), Proves.refuse)
   inner_parameter_right d e at from ss n h op inner us i false is =
       let p : P Sort.parameter_declarator (Program.take (Token.Mark m.CloseParen) true (λ to. Program.call (Rule.repeat is_open_bracket (Rule.array e)) (λ arrays.
-              Program.give (ParameterDeclaratorTree.Nested (parameter_declarator_at inner) n inner arrays))))
-            (λ ts. IsParameterDeclarator g d at (ss ++ (mark m.OpenParen from ∷ (us ++ ts)))) =
-          takes (λ at. refl) (λ to k. last (λ arrays zs z. nested_parameter d e at from to ss us zs n inner arrays h op i (some_declarator i is) z)) in
+      Program.give (ParameterDeclaratorTree.Nested (parameter_declarator_at inner) n inner arrays))))
+      (λ ts. IsParameterDeclarator g d at (ss ++ (mark m.OpenParen from ∷ (us ++ ts)))) =
+      takes (λ at. refl) (λ to k. last (λ arrays zs z. nested_parameter d e at from to ss us zs n inner arrays h op i (some_declarator i is) z)) in
       (o.completes g (samples g) _ _ _ p refl, p)
 
   type_declarator_right : (d : Level) (at : At) (n : ℕ) (ss : List Placed) → AreStars g d (d + n) ss n
       → P Sort.type_declarator (Program.look (λ c. cond (is_open_paren c)
-          (Program.take (Token.Mark m.OpenParen) (opens (d + n)) (λ from. Program.call (Rule.type_declarator (suc (d + n)) at) (λ inner. cond (is_nothing inner) Program.refuse
-            (Program.take (Token.Mark m.CloseParen) true (λ to. Program.call (Rule.sizes (d + n)) (λ sizes. Program.give (TypeDeclaratorTree.Nested at n inner sizes)))))))
-          (Program.call (Rule.sizes (d + n)) (λ sizes. Program.give (TypeDeclaratorTree.Direct at n sizes)))))
-        (λ ts. IsTypeDeclarator g d at (ss ++ ts))
+      (Program.take (Token.Mark m.OpenParen) (opens (d + n)) (λ from. Program.call (Rule.type_declarator (suc (d + n)) at) (λ inner. cond (is_nothing inner) Program.refuse
+      (Program.take (Token.Mark m.CloseParen) true (λ to. Program.call (Rule.sizes (d + n)) (λ sizes. Program.give (TypeDeclaratorTree.Nested at n inner sizes)))))))
+      (Program.call (Rule.sizes (d + n)) (λ sizes. Program.give (TypeDeclaratorTree.Direct at n sizes)))))
+      (λ ts. IsTypeDeclarator g d at (ss ++ ts))
   type_declarator_right d at n ss h = whens is_open_paren
       (takes (λ at. refl) (λ from k. Proves.call
-        (λ inner us i. (inner_right d (d + n) at from ss n h (open_at from (d + n) k) inner us i (is_nothing inner) refl).0)
-        (λ inner us i. (inner_right d (d + n) at from ss n h (open_at from (d + n) k) inner us i (is_nothing inner) refl).1)))
+      (λ inner us i. (inner_right d (d + n) at from ss n h (open_at from (d + n) k) inner us i (is_nothing inner) refl).0)
+      (λ inner us i. (inner_right d (d + n) at from ss n h (open_at from (d + n) k) inner us i (is_nothing inner) refl).1)))
       (last (λ sizes zs z. IsTypeDeclarator.direct h z))
 
   parameter_declarator_right : (d : Level) (at : At) (n : ℕ) (ss : List Placed) → AreStars g d (d + n) ss n → (c : Option Token)
@@ -231,7 +224,7 @@ module _ (g : Limits) where
 
   one_parameter : (d : Level) (us : List Placed) (p : ParameterTree) → IsParameter g d us p → (b : Bool) → (is_void p.specifier && is_no_declarator p.declarator) ≡ b
       → (Free g → Sample (λ ts. AreParameters g d (us ++ ts)))
-        × P Sort.parameters (cond b (Program.give (ParametersTree.Void p.at)) (Program.give (ParametersTree.Listed p.at (p ∷ [])))) (λ ts. AreParameters g d (us ++ ts))
+      × P Sort.parameters (cond b (Program.give (ParametersTree.Void p.at)) (Program.give (ParametersTree.Listed p.at (p ∷ [])))) (λ ts. AreParameters g d (us ++ ts))
   one_parameter d us p i true is =
       let h : AreParameters g d (us ++ []) (ParametersTree.Void p.at) = rw (append-nil, void_alone i is) AreParameters.void in
       (λ free. record { tokens = []; value = ParametersTree.Void p.at; holds = h }, Proves.give h)
@@ -244,11 +237,11 @@ module _ (g : Limits) where
   parameters_right d _ us (Commas.last {x = p} i) = one_parameter d us p i (is_void p.specifier && is_no_declarator p.declarator) refl
   parameters_right d _ _ (Commas.next {ts = ts} {x = p} {us = us} i comma (Commas.last {x = q} j)) =
       let h : AreParameters g d ((ts ++ (mark m.Comma comma ∷ us)) ++ []) (ParametersTree.Listed p.at (p ∷ q ∷ [])) =
-          rw append-nil (AreParameters.listed (Commas.next i comma (Commas.last j)) (two ts us comma (parameter_some i))) in
+      rw append-nil (AreParameters.listed (Commas.next i comma (Commas.last j)) (two ts us comma (parameter_some i))) in
       (λ free. record { tokens = []; value = _; holds = h }, Proves.give h)
   parameters_right d _ _ (Commas.next {ts = ts} {x = p} {us = us} i comma (Commas.next {x = q} {us = vs} {xs = xs} j other k)) =
       let h : AreParameters g d ((ts ++ (mark m.Comma comma ∷ us)) ++ []) (ParametersTree.Listed p.at (p ∷ q ∷ xs)) =
-          rw append-nil (AreParameters.listed (Commas.next i comma (Commas.next j other k)) (two ts us comma (parameter_some i))) in
+      rw append-nil (AreParameters.listed (Commas.next i comma (Commas.next j other k)) (two ts us comma (parameter_some i))) in
       (λ free. record { tokens = []; value = _; holds = h }, Proves.give h)
 
   -- ---- statements
@@ -284,24 +277,31 @@ module _ (g : Limits) where
 
   begun_by : (free : Free g) (d : Level) (c : Token) → begins_statement c ≡ true → Sample (λ us (x : StatementTree × Bool). IsStatement g d x.1 (token_at c free.0 ∷ us) x.0)
   begun_by free d (Token.Mark m.Semicolon) h = record { tokens = []; value = (StatementTree.Empty free.0, false); holds = IsStatement.empty }
-  begun_by free d (Token.Mark m.OpenBrace) h = record { tokens = mark m.CloseBrace free.0 ∷ []; value = (StatementTree.Block (BlockTree.block free.0 BlockItemTrees.none), false);
-      holds = IsStatement.block (IsBlock.braces (no_limit free d) AreItems.no_item free.0) }
+  begun_by free d (Token.Mark m.OpenBrace) h = record {
+    tokens = mark m.CloseBrace free.0 ∷ [];
+    value = (StatementTree.Block (BlockTree.block free.0 BlockItemTrees.none), false);
+    holds = IsStatement.block (IsBlock.braces (no_limit free d) AreItems.no_item free.0);
+  }
   begun_by free d (Token.Word w.If) h = record {
     tokens = mark m.OpenParen free.0 ∷ identifier [] free.0 ∷ mark m.CloseParen free.0 ∷ mark m.Semicolon free.0 ∷ [];
     value = (StatementTree.If free.0 (ExpressionTree.Name free.0 []) (StatementTree.Empty free.0), true);
-    holds = IsStatement.only_if (no_limit free d) (condition free (suc d)) free.0 IsStatement.empty }
+    holds = IsStatement.only_if (no_limit free d) (condition free (suc d)) free.0 IsStatement.empty;
+  }
   begun_by free d (Token.Word w.While) h = record {
     tokens = mark m.OpenParen free.0 ∷ identifier [] free.0 ∷ mark m.CloseParen free.0 ∷ mark m.Semicolon free.0 ∷ [];
     value = (StatementTree.While free.0 (ExpressionTree.Name free.0 []) (StatementTree.Empty free.0), false);
-    holds = IsStatement.while (no_limit free d) (condition free (suc d)) free.0 IsStatement.empty }
+    holds = IsStatement.while (no_limit free d) (condition free (suc d)) free.0 IsStatement.empty;
+  }
   begun_by free d (Token.Word w.Do) h = record {
     tokens = mark m.Semicolon free.0 ∷ word w.While free.0 ∷ mark m.OpenParen free.0 ∷ identifier [] free.0 ∷ mark m.CloseParen free.0 ∷ mark m.Semicolon free.0 ∷ [];
     value = (StatementTree.DoWhile free.0 (StatementTree.Empty free.0) (ExpressionTree.Name free.0 []), false);
-    holds = IsStatement.do_while free.0 free.0 (no_limit free d) IsStatement.empty (condition free (suc d)) free.0 free.0 }
+    holds = IsStatement.do_while free.0 free.0 (no_limit free d) IsStatement.empty (condition free (suc d)) free.0 free.0;
+  }
   begun_by free d (Token.Word w.For) h = record {
     tokens = mark m.OpenParen free.0 ∷ mark m.Semicolon free.0 ∷ mark m.Semicolon free.0 ∷ mark m.CloseParen free.0 ∷ mark m.Semicolon free.0 ∷ [];
     value = (StatementTree.For free.0 (ForStartTree.Expression None) None None (StatementTree.Empty free.0), false);
-    holds = IsStatement.for (no_limit free d) (IsForStart.expression Optional.absent free.0) Optional.absent free.0 Optional.absent free.0 IsStatement.empty }
+    holds = IsStatement.for (no_limit free d) (IsForStart.expression Optional.absent free.0) Optional.absent free.0 Optional.absent free.0 IsStatement.empty;
+  }
   begun_by free d (Token.Word w.Break) h = record { tokens = mark m.Semicolon free.0 ∷ []; value = (StatementTree.Break free.0, false); holds = IsStatement.break }
   begun_by free d (Token.Word w.Continue) h = record { tokens = mark m.Semicolon free.0 ∷ []; value = (StatementTree.Continue free.0, false); holds = IsStatement.continue }
   begun_by free d (Token.Word w.Return) h = record { tokens = mark m.Semicolon free.0 ∷ []; value = (StatementTree.Return free.0 None, false); holds = IsStatement.return Optional.absent free.0 }
@@ -343,15 +343,15 @@ module _ (g : Limits) where
     where
       after : (from : At) → (g from ≡ true → opens d ≡ true) → P Sort.statement
           (Program.call (Rule.statement (suc d)) (λ x. Program.take (Token.Word w.While) true (λ again. Program.take (Token.Mark m.OpenParen) true (λ from.
-            Program.call (Rule.expression (suc d)) (λ c. Program.take (Token.Mark m.CloseParen) true (λ to. Program.take (Token.Mark m.Semicolon) true (λ end. Program.give (StatementTree.DoWhile at x.0 c, false))))))))
+          Program.call (Rule.expression (suc d)) (λ c. Program.take (Token.Mark m.CloseParen) true (λ to. Program.take (Token.Mark m.Semicolon) true (λ end. Program.give (StatementTree.DoWhile at x.0 c, false))))))))
           (λ ts y. Begins from ts → IsStatement g d y.1 (word w.Do at ∷ ts) y.0)
       after first ok = calls (λ x. refl) (λ x us i. takes (λ at. refl) (λ again k. takes (λ at. refl) (λ from l. calls (λ c. refl) (λ c cs j.
           takes (λ at. refl) (λ to k. takes (λ at. refl) (λ end l. Proves.give (λ b.
-            IsStatement.do_while again from (first_opens again d first us _ ok (statement_some i) b) i j to end)))))))
+          IsStatement.do_while again from (first_opens again d first us _ ok (statement_some i) b) i j to end)))))))
 
       by : (b : Bool) → begins_statement t ≡ b → P Sort.statement
           (cond b (Program.ahead t (opens d) (λ from. Program.call (Rule.statement (suc d)) (λ x. Program.take (Token.Word w.While) true (λ again. Program.take (Token.Mark m.OpenParen) true (λ from.
-            Program.call (Rule.expression (suc d)) (λ c. Program.take (Token.Mark m.CloseParen) true (λ to. Program.take (Token.Mark m.Semicolon) true (λ end. Program.give (StatementTree.DoWhile at x.0 c, false))))))))) Program.refuse)
+          Program.call (Rule.expression (suc d)) (λ c. Program.take (Token.Mark m.CloseParen) true (λ to. Program.take (Token.Mark m.Semicolon) true (λ end. Program.give (StatementTree.DoWhile at x.0 c, false))))))))) Program.refuse)
           (λ ts y. IsStatement g d y.1 (word w.Do at ∷ ts) y.0)
       by true is = Proves.ahead
           (λ first deep low. begun (first, low))
@@ -433,8 +433,8 @@ module _ (g : Limits) where
   statement_right d (Some (Token.Mark m.OpenBrace)) = last (λ x us i. IsStatement.block i)
   statement_right d (Some (Token.Word w.If)) = takes (λ at. refl) (λ at k. takes (λ at. refl) (λ from l. calls (λ c. refl) (λ c cs i. takes (λ at. refl) (λ to k.
       Proves.call
-        (λ x us j. o.completes g (samples g) _ _ _ (else_right at from to d c cs us (open_at from d l) i x.0 x.1 j) (else_goes at c d x.0 x.1))
-        (λ x us j. else_right at from to d c cs us (open_at from d l) i x.0 x.1 j)))))
+      (λ x us j. o.completes g (samples g) _ _ _ (else_right at from to d c cs us (open_at from d l) i x.0 x.1 j) (else_goes at c d x.0 x.1))
+      (λ x us j. else_right at from to d c cs us (open_at from d l) i x.0 x.1 j)))))
   statement_right d (Some (Token.Word w.While)) = takes (λ at. refl) (λ at k. takes (λ at. refl) (λ from l. calls (λ c. refl) (λ c cs i. takes (λ at. refl) (λ to k.
       last (λ x us j. IsStatement.while (open_at from d l) i to j)))))
   statement_right d (Some (Token.Word w.Do)) = Proves.take (λ at k free. do_sample at free) (λ at k. Proves.look (do_right d at))
@@ -511,12 +511,12 @@ module _ (g : Limits) where
   proves _ (Rule.expression d) = calls (λ a. refl) (λ a us i. last (λ b vs j. j us (IsExpression.assignment i)))
   proves _ (Rule.comma_rest d a) = whens is_comma
       (takes (λ at. refl) (λ at k. calls (λ b. refl) (λ b us i. last (λ c vs j ls h.
-        rw (← append_assoc ls (mark m.Comma at ∷ us) vs) (j (ls ++ (mark m.Comma at ∷ us)) (IsExpression.comma h (o.lowered g (samples g) at a k) i))))))
+      rw (← append_assoc ls (mark m.Comma at ∷ us) vs) (j (ls ++ (mark m.Comma at ∷ us)) (IsExpression.comma h (o.lowered g (samples g) at a k) i))))))
       (Proves.give (λ ls h. e.nothing_behind g (IsExpression g d) ls a h))
   proves _ (Rule.assignment d) = calls (λ a. refl) (λ a us i. Proves.look (λ c. e.assign_right g d a us i (assigns c) (assigns_is c)))
   proves _ (Rule.conditional d) = calls (λ a. refl) (λ a cs i. whens is_question
       (takes (λ at. refl) (λ at k. calls (λ b. refl) (λ b ts j. takes (λ at. refl) (λ colon l. last (λ c us n.
-        IsConditional.choice i (o.low_of g (samples g) at a d k) (o.open_of g (samples g) at a d k) j colon n)))))
+      IsConditional.choice i (o.low_of g (samples g) at a d k) (o.open_of g (samples g) at a d k) j colon n)))))
       (Proves.give (e.nothing_behind g (IsConditional g d) cs a (IsConditional.binary i))))
   proves _ (Rule.binary k d) = binary_k k d
   proves _ (Rule.binary_rest k d a) = Proves.look (λ c. e.binary_right g k d a (operator (suc k) c) (operator_is (suc k) c))
@@ -554,8 +554,8 @@ module _ (g : Limits) where
       braced d at to us ps op (Parts.trailing vs comma is i) = rw (is, append_assoc vs (mark m.Comma comma ∷ []) (mark m.CloseBrace to ∷ [])) (IsInitializer.braced_comma op i comma to)
   proves _ (Rule.parts d) = calls (λ x. refl) (λ x us i. whens is_comma
       (takes (λ at. refl) (λ at k. whens is_close_brace
-        (Proves.give (Parts.trailing us at refl (AreParts.last i)))
-        (last (λ rest vs j. further d x rest at us vs i j))))
+      (Proves.give (Parts.trailing us at refl (AreParts.last i)))
+      (last (λ rest vs j. further d x rest at us vs i j))))
       (Proves.give (Parts.plain (e.nothing_behind g (AreParts g d) us (InitializerTrees.more x InitializerTrees.none) (AreParts.last i)))))
     where
       further : (d : Level) (x : InitializerTree) (rest : InitializerTrees) (at : At) (us vs : List Placed) → IsInitializer g d us x → Parts g d vs rest
@@ -581,14 +581,14 @@ module _ (g : Limits) where
   proves _ (Rule.external d) = calls (λ h. refl) (λ h hs i. whens is_semicolon
       (takes (λ at. refl) (λ to k. Proves.give (IsExternal.nothing i to)))
       (calls (λ t. refl) (λ t ts j. whens is_open_brace
-        (last (λ x us n. IsExternal.function i j n))
-        (calls (λ x. refl) (λ x us n. calls (λ xs. refl) (λ xs vs r. takes (λ at. refl) (λ to k. Proves.give (external d h.1 h.0 hs ts us vs xs to i (r (ts ++ us) (n ts j))))))))))
+      (last (λ x us n. IsExternal.function i j n))
+      (calls (λ x. refl) (λ x us n. calls (λ xs. refl) (λ xs vs r. takes (λ at. refl) (λ to k. Proves.give (external d h.1 h.0 hs ts us vs xs to i (r (ts ++ us) (n ts j))))))))))
     where
       external : (d : Level) (at : At) (h : HeadTree) (hs ts us vs : List Placed) (xs : List InitDeclaratorTree) (to : At) → IsHead g d at hs h → Commas (IsInitDeclarator g d) ((ts ++ us) ++ vs) xs
           → IsExternal g d (hs ++ (ts ++ (us ++ (vs ++ (mark m.Semicolon to ∷ []))))) (ExternalTree.Declaration at h xs)
       external d at h hs ts us vs xs to i j =
           let e1 : ((ts ++ us) ++ vs) ++ (mark m.Semicolon to ∷ []) ≡ ts ++ (us ++ (vs ++ (mark m.Semicolon to ∷ []))) =
-              append_assoc (ts ++ us) vs (mark m.Semicolon to ∷ []) ∙ append_assoc ts us (vs ++ (mark m.Semicolon to ∷ [])) in
+          append_assoc (ts ++ us) vs (mark m.Semicolon to ∷ []) ∙ append_assoc ts us (vs ++ (mark m.Semicolon to ∷ [])) in
           subst (λ z. IsExternal g d (hs ++ z) (ExternalTree.Declaration at h xs)) e1 (IsExternal.listed i j to)
   proves _ Rule.unit = Proves.look unit_right
 

@@ -1,8 +1,7 @@
 -- The rules for expressions read what stands for their values.
-use Rattle.std.proofs.Common.{◌≡◌, ℕ, zero, suc, ◌≤◌, ◌<◌, ◌+◌, Bool, true, false, cond, ◌&&◌, ◌==◌, List, [], ◌∷◌, ◌++◌, length, Option, Some, None, refl, sym, ap, ◌∙◌, subst, append_assoc, arith}
+use Rattle.std.proofs.Common.{◌≡◌, ℕ, suc, ◌+◌, Bool, true, false, cond, ◌==◌, List, [], ◌∷◌, ◌++◌, Option, Some, None, refl, sym, ap, ◌∙◌, subst, append_assoc, arith}
 use Rattle.std.proofs.lemmas.List.{append-nil}
-use Rattle.std.proofs.lemmas.Bool.{false≢true}
-use Rattle.std.proofs.lemmas.Bool.Decides.{nat_tests, eqb_tells}
+use Rattle.std.proofs.lemmas.Bool.Decides.{nat_tests}
 use Rattle.c_words.specs.Tokens.{Token, Placed}
 use Rattle.c_words.specs.declared.place.At.{At}
 use Rattle.c_words.specs.declared.words.Reserved.TheVariants as w
@@ -12,21 +11,16 @@ use Rattle.c_words.specs.declared.operators.UnaryOperator.{UnaryOperator}
 use Rattle.c_words.specs.declared.operators.StepOperator.{StepOperator}
 use Rattle.c_words.specs.declared.operators.BinaryOperator.{BinaryOperator}
 use Rattle.c_words.specs.declared.operators.AssignOperator.{AssignOperator}
-use Rattle.c_tree.specs.declared.syntax.specifiers.Specifier.{Specifier}
-use Rattle.c_tree.specs.declared.syntax.specifiers.Specifier.TheVariants as s
-use Rattle.c_tree.specs.Syntax.{ExpressionTree, ExpressionTrees, TypeNameTree, TypeDeclaratorTree, ParameterDeclaratorTree, ParameterTree, ParametersTree, SuffixTree, DeclaratorTree, InitializerTree, InitializerTrees, ForStartTree, StatementTree, BlockTree, BlockItemTree, BlockItemTrees, HeadTree, ExternalTree}
+use Rattle.c_tree.specs.Syntax.{ExpressionTree}
 use Rattle.c_tree.specs.GrammarLimits.{Limits, Level, Opens}
-use Rattle.c_tree.specs.GrammarTokens.{mark, word, identifier, first_at, Optional, Many, Commas, AreStrings, binary_operator, assign_operator, unary_operator, step_operator, weakest}
-use Rattle.c_tree.specs.GrammarExpressions.{IsSpecifier, AreStars, IsExpression, IsAssignment, IsConditional, IsBinary, IsCast, IsUnary, IsPostfix, IsPrimary, AreArguments, AreListed, IsTypeName, IsTypeDeclarator, AreSizes}
-use Rattle.c_tree.specs.GrammarDeclarations.{is_lone_void, IsArray, IsParameterDeclarator, IsParameter, AreParameters, IsSuffix, IsDeclarator, IsInitializer, AreParts, IsInitDeclarator, IsDeclaration, IsMember, IsStructDefinition}
-use Rattle.c_tree.specs.GrammarStatements.{IsForStart, IsStatement, IsBlock, AreItems, IsItem}
-use Rattle.c_tree.specs.Grammar.{start_of_file, IsHead, IsExternal, Derives}
+use Rattle.c_tree.specs.GrammarTokens.{mark, word, identifier, AreStrings, binary_operator, assign_operator, unary_operator, step_operator}
+use Rattle.c_tree.specs.GrammarExpressions.{IsSpecifier, AreStars, IsAssignment, IsConditional, IsBinary, IsCast, IsUnary, IsPostfix, IsPrimary}
 use Rattle.c_parser.specs.Programs.{Sort, Value, Rule, Program}
-use Rattle.c_parser.specs.Tests.{is_end, is_some, is_comma, is_semicolon, is_question, is_equal, is_star, is_open_paren, is_close_paren, is_open_bracket, is_close_bracket, is_open_brace, is_close_brace, goes_on, is_else, is_int, begins_specifier, begins_statement, begins_suffix, at_strength, operator, with_mark, assigns, opens, is_low}
-use Rattle.c_parser.specs.Bodies.{body, identifier_by, strings_by, unsigned_by, specifier_by, assign_by, binary_by, cast_by, sizeof_by, unary_mark, unary_by, postfix_by, primary_by, is_nothing, is_no_declarator, is_void, parameters_of, parameter_declarator_by, declarator_by, else_by, do_by, value_statement, statement_by, head_by, unit_by}
+use Rattle.c_parser.specs.Tests.{is_int, begins_specifier, at_strength, operator, with_mark, assigns, opens}
+use Rattle.c_parser.specs.Bodies.{identifier_by, strings_by, unsigned_by, specifier_by, assign_by, binary_by, cast_by, sizeof_by, unary_mark, unary_by, postfix_by, primary_by}
 use Rattle.c_parser.specs.Runs.{token_at}
-use Rattle.c_parser.proofs.Meanings.{Means, Parts}
-use Rattle.c_parser.proofs.Soundness.{Rel, Sample, Free, Proves, Good}
+use Rattle.c_parser.proofs.Meanings.{Means}
+use Rattle.c_parser.proofs.Soundness.{Rel, Proves}
 use Rattle.c_parser.proofs.Outline as o
 use Rattle.c_parser.proofs.Samples.{samples}
 
@@ -141,7 +135,7 @@ module _ (g : Limits) where
   sizeof_right d at op (Some (Token.Mark m.OpenParen)) = takes (λ at. refl) (λ from k. whens begins_specifier
       (calls (λ t. refl) (λ t us i. takes (λ to. refl) (λ to l. Proves.give (IsUnary.sizeof_type op (open_at from (suc d) k) i to))))
       (calls (λ a. refl) (λ a us i. last (λ b vs j. IsUnary.sizeof_expression op
-        (IsUnary.postfix (j (mark m.OpenParen from ∷ us) (IsPostfix.primary (i (open_at from (suc d) k)))))))))
+      (IsUnary.postfix (j (mark m.OpenParen from ∷ us) (IsPostfix.primary (i (open_at from (suc d) k)))))))))
   sizeof_right d at op _ = last (λ a us i. IsUnary.sizeof_expression op i)
 
   unary_mark_right : (d : Level) (p : Punctuator) (x : Option StepOperator) (y : Option UnaryOperator)
@@ -171,10 +165,10 @@ module _ (g : Limits) where
   pub postfix_right : (d : Level) (a : ExpressionTree) (c : Option Token) → P _ (postfix_by d a c) (Means g (Rule.postfix_rest d a))
   postfix_right d a (Some (Token.Mark m.OpenBracket)) = takes (λ at. refl) (λ at k. calls (λ b. refl) (λ b us i. takes (λ to. refl) (λ to l. last (λ c vs j.
       bracket d a (ExpressionTree.Index at a b) c (mark m.OpenBracket at) (mark m.CloseBracket to) us vs
-        (λ ls h. IsPostfix.index h (o.low_of g (samples g) at a d k) (o.open_of g (samples g) at a d k) i to) j))))
+      (λ ls h. IsPostfix.index h (o.low_of g (samples g) at a d k) (o.open_of g (samples g) at a d k) i to) j))))
   postfix_right d a (Some (Token.Mark m.OpenParen)) = takes (λ at. refl) (λ at k. calls (λ b. refl) (λ xs us i. takes (λ to. refl) (λ to l. last (λ c vs j.
       bracket d a _ c (mark m.OpenParen at) (mark m.CloseParen to) us vs
-        (λ ls h. IsPostfix.call h at (o.low_of g (samples g) at a d k) (o.open_of g (samples g) at a d k) i to) j))))
+      (λ ls h. IsPostfix.call h at (o.low_of g (samples g) at a d k) (o.open_of g (samples g) at a d k) i to) j))))
   postfix_right d a (Some (Token.Mark m.Dot)) = takes (λ at. refl) (λ at k. o.named g (samples g) (λ x. refl) (λ x next. last (λ c vs j.
       more d a _ c (mark m.Dot at ∷ identifier x next ∷ []) vs (λ ls h. IsPostfix.member h (o.lowered g (samples g) at a k) next) j)))
   postfix_right d a (Some (Token.Mark m.Arrow)) = takes (λ at. refl) (λ at k. o.named g (samples g) (λ x. refl) (λ x next. last (λ c vs j.

@@ -1,9 +1,8 @@
 -- How a token goes on behind an expression, and what an expression begins with.
-use Rattle.std.proofs.Common.{◌≡◌, ℕ, zero, suc, ◌≤◌, ◌<◌, ◌+◌, Bool, true, false, cond, ◌&&◌, ◌==◌, List, [], ◌∷◌, ◌++◌, length, Option, Some, None, refl, sym, ap, ◌∙◌, subst, append_assoc, arith}
+use Rattle.std.proofs.Common.{◌≡◌, ℕ, ◌<◌, Bool, true, false, List, [], ◌∷◌, ◌++◌, Option, Some, None, refl, sym, ap, ◌∙◌, arith}
 use Rattle.std.proofs.lemmas.Bool.{false≢true}
 use Rattle.std.proofs.lemmas.Bool.Decides.{nat_tests}
 use Rattle.c_words.specs.Tokens.{Token, Placed}
-use Rattle.c_words.specs.declared.place.At.{At}
 use Rattle.c_words.specs.declared.words.Reserved.TheVariants as w
 use Rattle.c_words.specs.declared.words.Punctuator.{Punctuator}
 use Rattle.c_words.specs.declared.words.Punctuator.TheVariants as m
@@ -13,10 +12,10 @@ use Rattle.c_words.specs.declared.operators.BinaryOperator.{BinaryOperator}
 use Rattle.c_words.specs.declared.operators.AssignOperator.{AssignOperator}
 use Rattle.c_tree.specs.Syntax.{ExpressionTree, ExpressionTrees}
 use Rattle.c_tree.specs.GrammarLimits.{Limits, Level}
-use Rattle.c_tree.specs.GrammarTokens.{mark, binary_operator, assign_operator, unary_operator, step_operator, AreStrings}
+use Rattle.c_tree.specs.GrammarTokens.{binary_operator, assign_operator, unary_operator, step_operator, AreStrings}
 use Rattle.c_tree.specs.GrammarExpressions.{IsExpression, IsAssignment, IsConditional, IsBinary, IsCast, IsUnary, IsPostfix, IsPrimary, AreListed}
-use Rattle.c_parser.specs.Programs.{Sort, Value, Rule, Program, Outcome}
-use Rattle.c_parser.specs.Tests.{first, is_comma, is_question, begins_expression, begins_specifier, at_strength, operator, with_mark, assigns}
+use Rattle.c_parser.specs.Programs.{Program}
+use Rattle.c_parser.specs.Tests.{first, is_comma, is_question, begins_expression, begins_specifier, at_strength, operator, assigns}
 use Rattle.c_parser.specs.Bodies.{strings_by, postfix_by}
 
 -- the strength of a binary operator, or what else the mark is

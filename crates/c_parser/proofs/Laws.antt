@@ -1,10 +1,9 @@
 -- A file has one tree, and is refused where the grammar's reading stops.
-use Rattle.std.proofs.Common.{◌≡◌, ℕ, zero, suc, ◌≤◌, ◌<◌, ◌+◌, ◌-◌, Bool, true, false, nat_lt, List, [], ◌∷◌, ◌++◌, length, refl, sym, ap, ◌∙◌, subst, append_assoc, length-append, arith}
+use Rattle.std.proofs.Common.{◌≡◌, ℕ, suc, ◌+◌, ◌-◌, true, false, nat_lt, List, [], ◌∷◌, ◌++◌, length, refl, sym, ap, ◌∙◌, subst, append_assoc, length-append, arith}
 use Rattle.std.specs.Prelude.{take}
-use Rattle.std.proofs.lemmas.Bool.{false≢true}
 use Rattle.std.proofs.lemmas.Bool.Decides.{nat_tests}
 use Rattle.std.proofs.lemmas.List.{append-nil, append_cancel_right}
-use Rattle.c_words.specs.Tokens.{Token, Placed}
+use Rattle.c_words.specs.Tokens.{Placed}
 use Rattle.c_words.specs.declared.place.At.{At}
 use Rattle.c_tree.specs.Syntax.{UnitTree}
 use Rattle.c_tree.specs.GrammarLimits.{Limits, within_limits, without_limits, limits_before}
@@ -12,12 +11,11 @@ use Rattle.c_tree.specs.Grammar.{Derives}
 use Rattle.c_tree.specs.GrammarRefusals.{Begin, Refusal, IsRefused}
 use Rattle.c_parser.specs.Programs.{Sort, Value, Rule, Program, Outcome}
 use Rattle.c_parser.specs.Bodies.{body}
-use Rattle.c_parser.specs.Runs.{Runs, token_at}
+use Rattle.c_parser.specs.Runs.{Runs}
 use Rattle.c_parser.specs.Laws.{HasOneUnit, Numbered}
 use Rattle.c_parser.proofs.RunsLaws.{one_outcome}
 use Rattle.c_parser.proofs.CompleteStatements.{complete}
 use Rattle.c_parser.proofs.Stability.{Fits, suffix, stable}
-use Rattle.c_parser.proofs.Meanings.{Means}
 use Rattle.c_parser.proofs.Soundness.{Free, Says, Read, right}
 use Rattle.c_parser.proofs.DeclarationsRight.{all_right}
 
@@ -87,14 +85,14 @@ Whole g ts o = Says g (Derives g) ts o
 whole_says : (n : ℕ) (ts : List Placed) (o : Outcome UnitTree) → Runs within_limits Sort.unit (body Rule.unit) ts o → Whole (limits_before n) ts o
 whole_says n ts o r =
     right (limits_before n) within_limits (λ at h. refl) (all_right (limits_before n)) Sort.unit (body Rule.unit) ts o r (Derives (limits_before n))
-      (all_right (limits_before n) Sort.unit Rule.unit).some (all_right (limits_before n) Sort.unit Rule.unit).proves
+    (all_right (limits_before n) Sort.unit Rule.unit).some (all_right (limits_before n) Sort.unit Rule.unit).proves
 
 -- what is read is derived
 pub sound : (ts us : List Placed) (unit : UnitTree) → Runs within_limits Sort.unit (body Rule.unit) ts (Outcome.read unit us) → us ≡ [] → Derives within_limits ts unit
 sound ts us unit r none =
     let i : Read within_limits (Derives within_limits) ts unit us =
-      right within_limits within_limits (λ at h. h) (all_right within_limits) Sort.unit (body Rule.unit) ts (Outcome.read unit us) r (Derives within_limits)
-        (all_right within_limits Sort.unit Rule.unit).some (all_right within_limits Sort.unit Rule.unit).proves in
+    right within_limits within_limits (λ at h. h) (all_right within_limits) Sort.unit (body Rule.unit) ts (Outcome.read unit us) r (Derives within_limits)
+    (all_right within_limits Sort.unit Rule.unit).some (all_right within_limits Sort.unit Rule.unit).proves in
     let e : ts ≡ i.tokens = i.cut ∙ ap (λ z. i.tokens ++ z) none ∙ append-nil i.tokens in
     subst (λ z. Derives within_limits z unit) (sym e) i.holds
 
@@ -120,8 +118,8 @@ at_token v t us Refusal.Syntax num r =
     let b = whole_says (length v) (v ++ (t ∷ us)) (Outcome.refused Refusal.Syntax (t ∷ us)) r (free_at (length v)) in
     let e : v ≡ b.before = append_cancel_right v b.before (t ∷ us) b.cut in
     IsRefused.syntax (length v) (omega (arith, length-append v (t ∷ us)))
-      (record { rest = b.tail; unit = b.value; derives = subst (λ z. Derives (limits_before (length v)) (z ++ b.tail) b.value) (sym e ∙ sym (take_front v (t ∷ us))) b.holds })
-      (λ begin. let i = one_more without_limits v t (subst (λ z. Begin without_limits z) (take_one v t us) begin) in none_with without_limits v t us i.0 Refusal.Syntax i.1 tt r i.2)
+    (record { rest = b.tail; unit = b.value; derives = subst (λ z. Derives (limits_before (length v)) (z ++ b.tail) b.value) (sym e ∙ sym (take_front v (t ∷ us))) b.holds })
+    (λ begin. let i = one_more without_limits v t (subst (λ z. Begin without_limits z) (take_one v t us) begin) in none_with without_limits v t us i.0 Refusal.Syntax i.1 tt r i.2)
 at_token v t us Refusal.TooDeep num r =
     let n : t.at.token ≡ length v = token_of 0 v t us num ∙ (omega arith) in
     let b = whole_says (length v) (v ++ (t ∷ us)) (Outcome.refused Refusal.TooDeep (t ∷ us)) r (ap (λ z. nat_lt z (length v)) n ∙ not_before (length v)) (free_at (length v)) in
@@ -129,17 +127,17 @@ at_token v t us Refusal.TooDeep num r =
     let kept : limits_before (suc (length v)) t.at ≡ true = ap (λ z. nat_lt z (suc (length v))) n ∙ before_next (length v) in
     let front : (v ++ (t ∷ [])) ++ b.tail ≡ b.before ++ (t ∷ b.tail) = append_assoc v (t ∷ []) b.tail ∙ ap (λ z. z ++ (t ∷ b.tail)) e in
     IsRefused.too_deep (length v) (omega (arith, length-append v (t ∷ us)))
-      (record { rest = b.tail; unit = b.value; derives = subst (λ z. Derives (limits_before (length v)) z b.value) (sym front ∙ ap (λ z. z ++ b.tail) (sym (take_one v t us))) b.holds })
-      (λ begin. let i = one_more (limits_before (suc (length v))) v t (subst (λ z. Begin (limits_before (suc (length v))) z) (take_one v t us) begin) in
-        none_with (limits_before (suc (length v))) v t us i.0 Refusal.TooDeep i.1 kept r i.2)
+    (record { rest = b.tail; unit = b.value; derives = subst (λ z. Derives (limits_before (length v)) z b.value) (sym front ∙ ap (λ z. z ++ b.tail) (sym (take_one v t us))) b.holds })
+    (λ begin. let i = one_more (limits_before (suc (length v))) v t (subst (λ z. Begin (limits_before (suc (length v))) z) (take_one v t us) begin) in
+    none_with (limits_before (suc (length v))) v t us i.0 Refusal.TooDeep i.1 kept r i.2)
 
 at_end : (v : List Placed) (why : Refusal) → Runs within_limits Sort.unit (body Rule.unit) v (Outcome.refused why []) → IsRefused v why (length v)
 at_end v Refusal.Syntax r =
     let b = whole_says (length v) v (Outcome.refused Refusal.Syntax []) r (free_at (length v)) in
     let e : v ≡ b.before = b.cut ∙ append-nil b.before in
     IsRefused.ended (record { rest = b.tail; unit = b.value; derives = subst (λ z. Derives (limits_before (length v)) (z ++ b.tail) b.value) (sym e) b.holds })
-      (λ unit x. read_or_not unit [] [] Refusal.Syntax (one_outcome without_limits _ _ v _ _ (complete without_limits v unit x)
-        (weaker within_limits without_limits (λ at h. refl) Sort.unit (body Rule.unit) v (Outcome.refused Refusal.Syntax []) r tt)))
+    (λ unit x. read_or_not unit [] [] Refusal.Syntax (one_outcome without_limits _ _ v _ _ (complete without_limits v unit x)
+    (weaker within_limits without_limits (λ at h. refl) Sort.unit (body Rule.unit) v (Outcome.refused Refusal.Syntax []) r tt)))
 at_end v Refusal.TooDeep r = absurd (deep_some within_limits Sort.unit (body Rule.unit) v (Outcome.refused Refusal.TooDeep []) r refl)
 
 refused_by : (v us : List Placed) (why : Refusal) → Numbered 0 (v ++ us) → Runs within_limits Sort.unit (body Rule.unit) (v ++ us) (Outcome.refused why us) → IsRefused (v ++ us) why (length v)

@@ -1,20 +1,19 @@
 -- Steps of a proof that a program reads what stands for its value.
-use Rattle.std.proofs.Common.{◌≡◌, ℕ, zero, suc, ◌≤◌, ◌<◌, ◌+◌, Bool, true, false, cond, ◌&&◌, nat_lt, List, [], ◌∷◌, ◌++◌, length, Option, Some, None, refl, sym, ap, ◌∙◌, subst, append_assoc, arith}
+use Rattle.std.proofs.Common.{◌≡◌, ℕ, ◌≤◌, ◌<◌, Bool, true, false, cond, ◌&&◌, nat_lt, List, [], ◌∷◌, ◌++◌, Option, None, refl, sym, ◌∙◌, subst, arith}
 use Rattle.std.proofs.lemmas.List.{append-nil}
 use Rattle.std.proofs.lemmas.Bool.{false≢true}
 use Rattle.std.proofs.lemmas.Bool.Decides.{nat_tests}
 use Rattle.c_words.specs.Tokens.{Token, Placed}
 use Rattle.c_words.specs.declared.place.At.{At}
-use Rattle.c_words.specs.declared.words.Punctuator.{Punctuator}
 use Rattle.c_tree.specs.Syntax.{ExpressionTree}
-use Rattle.c_tree.specs.GrammarLimits.{Limits, Level, Opens, IsLow}
+use Rattle.c_tree.specs.GrammarLimits.{Limits, Opens, IsLow}
 use Rattle.c_tree.specs.GrammarTokens.{identifier}
-use Rattle.c_parser.specs.Programs.{Sort, Value, Rule, Program, Outcome}
-use Rattle.c_parser.specs.Tests.{first, opens, is_low}
-use Rattle.c_parser.specs.Bodies.{body, when}
+use Rattle.c_parser.specs.Programs.{Sort, Value, Rule, Program}
+use Rattle.c_parser.specs.Tests.{opens, is_low}
+use Rattle.c_parser.specs.Bodies.{when}
 use Rattle.c_parser.specs.Runs.{token_at}
 use Rattle.c_parser.proofs.Meanings.{Means}
-use Rattle.c_parser.proofs.Soundness.{Rel, Sample, Begins, Free, Proves, Good}
+use Rattle.c_parser.proofs.Soundness.{Rel, Sample, Free, Proves}
 
 -- the program may go on, whatever follows
 abbrev pub goes : {s : Sort} → Program s → Bool

@@ -1,5 +1,5 @@
 -- A program has one outcome, and what is behind the refused token changes nothing.
-use Rattle.std.proofs.Common.{◌≡◌, ℕ, zero, suc, ◌≤◌, ◌<◌, ◌+◌, Bool, true, false, List, [], ◌∷◌, ◌++◌, length, Option, Some, None, refl, sym, ap, ◌∙◌, subst, append_assoc, length-append, arith}
+use Rattle.std.proofs.Common.{◌≡◌, Bool, true, false, List, ◌∷◌, Some, refl, sym, ap, ◌∙◌, subst}
 use Rattle.std.proofs.lemmas.Bool.{false≢true}
 use Rattle.c_words.specs.Tokens.{Token, Placed}
 use Rattle.c_words.specs.declared.place.At.{At}
@@ -82,32 +82,40 @@ module _ (limits : Limits) where
   one_outcome _ _ _ _ u Runs.refuse q = sym (came _ _ _ _ q)
   one_outcome _ _ _ _ u (Runs.look r) q = one_outcome _ _ _ _ u r (came _ _ _ _ q)
   one_outcome _ _ _ o u (Runs.take {s = s} {c = c} {within = within} {f = f} {at = at} {ts = ts} w r) q = elim (came _ _ _ _ q) [
-      Took.took at2 us e v q2 ↦ one_outcome _ _ _ o u r (same_rest s c f at at2 ts us u e q2)
+    | Took.took at2 us e v q2 ↦ one_outcome _ _ _ o u r (same_rest s c f at at2 ts us u e q2)
     | Took.deep at2 us e k bad is ↦ clash (w (same_at c at at2 ts us e k)) bad
-    | Took.other bad is ↦ absurd (bad refl) ]
+    | Took.other bad is ↦ absurd (bad refl)
+  ]
   one_outcome _ _ _ _ u (Runs.take_deep {c = c} {at = at} {ts = ts} k bad) q = elim (came _ _ _ _ q) [
-      Took.took at2 us e v q2 ↦ clash (v (same_at c at2 at us ts (sym e) k)) bad
+    | Took.took at2 us e v q2 ↦ clash (v (same_at c at2 at us ts (sym e) k)) bad
     | Took.deep at2 us e l not is ↦ sym is
-    | Took.other not is ↦ absurd (not refl) ]
+    | Took.other not is ↦ absurd (not refl)
+  ]
   one_outcome _ _ _ _ u (Runs.take_other bad) q = elim (came _ _ _ _ q) [
-      Took.took at2 us e v q2 ↦ absurd (bad (ap first e))
+    | Took.took at2 us e v q2 ↦ absurd (bad (ap first e))
     | Took.deep at2 us e l not is ↦ absurd (bad (ap first e))
-    | Took.other not is ↦ sym is ]
+    | Took.other not is ↦ sym is
+  ]
   one_outcome _ _ _ o u (Runs.ahead {s = s} {c = c} {within = within} {f = f} {at = at} {ts = ts} w r) q = elim (came _ _ _ _ q) [
-      Saw.saw at2 us e v q2 ↦ one_outcome _ _ _ o u r (subst (λ z. Runs limits s (f z) (token_at c at ∷ ts) u) (sym (at_same c at at2 ts us e)) q2)
+    | Saw.saw at2 us e v q2 ↦ one_outcome _ _ _ o u r (subst (λ z. Runs limits s (f z) (token_at c at ∷ ts) u) (sym (at_same c at at2 ts us e)) q2)
     | Saw.deep at2 us e k bad is ↦ clash (w (same_at c at at2 ts us e k)) bad
-    | Saw.other bad is ↦ absurd (bad refl) ]
+    | Saw.other bad is ↦ absurd (bad refl)
+  ]
   one_outcome _ _ _ _ u (Runs.ahead_deep {c = c} {at = at} {ts = ts} k bad) q = elim (came _ _ _ _ q) [
-      Saw.saw at2 us e v q2 ↦ clash (v (same_at c at2 at us ts (sym e) k)) bad
+    | Saw.saw at2 us e v q2 ↦ clash (v (same_at c at2 at us ts (sym e) k)) bad
     | Saw.deep at2 us e l not is ↦ sym is
-    | Saw.other not is ↦ absurd (not refl) ]
+    | Saw.other not is ↦ absurd (not refl)
+  ]
   one_outcome _ _ _ _ u (Runs.ahead_other bad) q = elim (came _ _ _ _ q) [
-      Saw.saw at2 us e v q2 ↦ absurd (bad (ap first e))
+    | Saw.saw at2 us e v q2 ↦ absurd (bad (ap first e))
     | Saw.deep at2 us e l not is ↦ absurd (bad (ap first e))
-    | Saw.other not is ↦ sym is ]
+    | Saw.other not is ↦ sym is
+  ]
   one_outcome _ _ _ o u (Runs.call {s = s} {t = t} {r = r} {f = f} {ts = ts} {us = us} {x = x} a n) q = elim (came _ _ _ _ q) [
-      Called.called y vs b m ↦ one_outcome _ _ _ o u n (next s t f x y us vs u (one_outcome _ _ _ _ _ a b) m)
-    | Called.failed why vs b is ↦ let e = one_outcome _ _ _ _ _ a b in absurd (cc) ]
+    | Called.called y vs b m ↦ one_outcome _ _ _ o u n (next s t f x y us vs u (one_outcome _ _ _ _ _ a b) m)
+    | Called.failed why vs b is ↦ let e = one_outcome _ _ _ _ _ a b in absurd (cc)
+  ]
   one_outcome _ _ _ _ u (Runs.call_refused a) q = elim (came _ _ _ _ q) [
-      Called.called y vs b m ↦ let e = one_outcome _ _ _ _ _ a b in absurd (cc)
-    | Called.failed why vs b is ↦ let e = one_outcome _ _ _ _ _ a b in refused_same _ _ _ _ _ _ e ∙ sym is ]
+    | Called.called y vs b m ↦ let e = one_outcome _ _ _ _ _ a b in absurd (cc)
+    | Called.failed why vs b is ↦ let e = one_outcome _ _ _ _ _ a b in refused_same _ _ _ _ _ _ e ∙ sym is
+  ]

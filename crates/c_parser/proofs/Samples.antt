@@ -1,21 +1,20 @@
 -- For each rule tokens that it reads, at a place at which no limit is kept.
-use Rattle.std.proofs.Common.{◌≡◌, ℕ, zero, suc, ◌+◌, Bool, true, false, List, [], ◌∷◌, ◌++◌, Option, Some, None, refl, sym, ◌∙◌, subst, arith}
+use Rattle.std.proofs.Common.{◌≡◌, ℕ, zero, suc, ◌+◌, false, List, [], ◌∷◌, ◌++◌, None, refl, sym, ◌∙◌, subst, arith}
 use Rattle.std.proofs.lemmas.Bool.{false≢true}
 use Rattle.std.proofs.lemmas.List.{append-nil}
-use Rattle.c_words.specs.Tokens.{Token, Placed}
+use Rattle.c_words.specs.Tokens.{Placed}
 use Rattle.c_words.specs.declared.place.At.{At}
 use Rattle.c_words.specs.declared.words.Reserved.TheVariants as w
 use Rattle.c_words.specs.declared.words.Punctuator.TheVariants as m
 use Rattle.c_tree.specs.declared.syntax.specifiers.Specifier.TheVariants as s
 use Rattle.c_tree.specs.Syntax.{ExpressionTree, ExpressionTrees, TypeNameTree, TypeDeclaratorTree, ParameterDeclaratorTree, ParametersTree, SuffixTree, DeclaratorTree, InitializerTree, InitializerTrees, ForStartTree, StatementTree, BlockTree, BlockItemTree, BlockItemTrees, HeadTree, ExternalTree}
-use Rattle.c_tree.specs.GrammarLimits.{Limits, Level, Opens}
+use Rattle.c_tree.specs.GrammarLimits.{Limits, Opens}
 use Rattle.c_tree.specs.GrammarTokens.{mark, word, identifier, Optional, Many, Commas, AreStrings}
 use Rattle.c_tree.specs.GrammarExpressions.{IsSpecifier, AreStars, IsExpression, IsAssignment, IsConditional, IsBinary, IsCast, IsUnary, IsPostfix, IsPrimary, AreArguments, AreListed, IsTypeName, IsTypeDeclarator, AreSizes}
 use Rattle.c_tree.specs.GrammarDeclarations.{declarator_at, IsArray, IsParameterDeclarator, IsParameter, AreParameters, IsSuffix, IsDeclarator, IsInitializer, AreParts, IsInitDeclarator, IsDeclaration, IsMember}
 use Rattle.c_tree.specs.GrammarStatements.{IsForStart, IsStatement, IsBlock, AreItems, IsItem}
 use Rattle.c_tree.specs.Grammar.{start_of_file, IsHead, IsExternal, Derives}
-use Rattle.c_parser.specs.Programs.{Sort, Value, Rule}
-use Rattle.c_parser.specs.Runs.{token_at}
+use Rattle.c_parser.specs.Programs.{Sort, Rule}
 use Rattle.c_parser.proofs.Meanings.{Means, Parts}
 use Rattle.c_parser.proofs.Soundness.{Rel, Sample, Free}
 

@@ -1,5 +1,5 @@
 -- What a program reads stands for its value, and what stands before a refused token begins something that does.
-use Rattle.std.proofs.Common.{◌≡◌, ℕ, zero, suc, ◌≤◌, ◌<◌, ◌+◌, Bool, true, false, List, [], ◌∷◌, ◌++◌, length, Option, Some, None, refl, sym, ap, ◌∙◌, subst, append_assoc, length-append, arith}
+use Rattle.std.proofs.Common.{◌≡◌, Bool, true, false, List, [], ◌∷◌, ◌++◌, length, Option, refl, sym, ap, ◌∙◌, subst, append_assoc}
 use Rattle.std.proofs.lemmas.Bool.{false≢true}
 use Rattle.c_words.specs.Tokens.{Token, Placed}
 use Rattle.c_words.specs.declared.place.At.{At}
@@ -112,7 +112,9 @@ module _ (grammar : Limits) where
   passed_push : {A : Type 0} (W : Rel A) (ls a us : List Placed) → Passed (λ ts. W (ls ++ ts)) a us → Passed W (ls ++ a) us
   passed_push W ls a [] h = tt
   passed_push W ls a (q ∷ us) h = λ low free. let b = h low free in record {
-    before = ls ++ b.before; tail = b.tail; value = b.value;
+    before = ls ++ b.before;
+    tail = b.tail;
+    value = b.value;
     cut = ap (λ z. ls ++ z) b.cut ∙ sym (append_assoc ls b.before (q ∷ us));
     holds = subst (λ z. W z b.value) (sym (append_assoc ls b.before (q ∷ b.tail))) b.holds;
   }
@@ -125,7 +127,9 @@ module _ (grammar : Limits) where
     holds = h.holds;
   }
   push W ls a (Outcome.refused Refusal.Syntax us) h = λ free. let b = h free in record {
-    before = ls ++ b.before; tail = b.tail; value = b.value;
+    before = ls ++ b.before;
+    tail = b.tail;
+    value = b.value;
     cut = ap (λ z. ls ++ z) b.cut ∙ sym (append_assoc ls b.before us);
     holds = subst (λ z. W z b.value) (sym (append_assoc ls b.before b.tail)) b.holds;
   }
@@ -141,7 +145,10 @@ module _ (grammar : Limits) where
   passed_on r f W a [] go h = tt
   passed_on r f W a (q ∷ us) go h = λ low free. let b = h low free in
       let t = go b.value (b.before ++ (q ∷ b.tail)) b.holds free in record {
-        before = b.before; tail = b.tail ++ t.tokens; value = t.value; cut = b.cut;
+        before = b.before;
+        tail = b.tail ++ t.tokens;
+        value = t.value;
+        cut = b.cut;
         holds = subst (λ z. W z t.value) (append_assoc b.before (q ∷ b.tail) t.tokens) t.holds;
       }
 
@@ -150,7 +157,10 @@ module _ (grammar : Limits) where
       → Says (Means grammar r) a (Outcome.refused why us) → Says W a (Outcome.refused why us)
   goes_on r f W a us Refusal.Syntax go h = λ free. let b = h free in
       let t = go b.value (b.before ++ b.tail) b.holds free in record {
-        before = b.before; tail = b.tail ++ t.tokens; value = t.value; cut = b.cut;
+        before = b.before;
+        tail = b.tail ++ t.tokens;
+        value = t.value;
+        cut = b.cut;
         holds = subst (λ z. W z t.value) (append_assoc b.before b.tail t.tokens) t.holds;
       }
   goes_on r f W a us Refusal.TooDeep go h = passed_on r f W a us go h

@@ -1,13 +1,12 @@
 -- What stands behind the refused token changes nothing, nor do limits at other tokens.
-use Rattle.std.proofs.Common.{◌≡◌, ℕ, zero, suc, ◌≤◌, ◌<◌, ◌+◌, Bool, true, false, List, [], ◌∷◌, ◌++◌, length, Option, Some, None, refl, sym, ap, ◌∙◌, subst, append_assoc, length-append, arith}
+use Rattle.std.proofs.Common.{◌≡◌, ◌<◌, true, List, [], ◌∷◌, ◌++◌, length, refl, sym, ap, ◌∙◌, subst, append_assoc, length-append, arith}
 use Rattle.std.proofs.lemmas.List.{append_cancel_right}
-use Rattle.c_words.specs.Tokens.{Token, Placed}
+use Rattle.c_words.specs.Tokens.{Placed}
 use Rattle.c_words.specs.declared.place.At.{At}
 use Rattle.c_tree.specs.GrammarLimits.{Limits}
 use Rattle.c_tree.specs.GrammarRefusals.{Refusal}
-use Rattle.c_parser.specs.Programs.{Sort, Value, Rule, Program, Outcome}
+use Rattle.c_parser.specs.Programs.{Sort, Value, Program, Outcome}
 use Rattle.c_parser.specs.Tests.{first}
-use Rattle.c_parser.specs.Bodies.{body}
 use Rattle.c_parser.specs.Runs.{Runs, token_at}
 
 abbrev pub rest_of : {A : Type 0} → Outcome A → List Placed
@@ -60,8 +59,9 @@ module _ (k k' : Limits) (fewer : (at : At) → k' at ≡ true → k at ≡ true
   -- the exchanged list begins with the same token
   begins : (q : Placed) (ts before : List Placed) → q ∷ ts ≡ before ++ (t ∷ s) → (rest : List Placed) × (before ++ (t ∷ s') ≡ q ∷ rest)
   begins q ts before e = elim (split q ts before e) [
-      Split.here none is rest ↦ (s', rw (none, is) refl)
-    | Split.within bs is rest ↦ (bs ++ (t ∷ s'), rw is refl) ]
+    | Split.here none is rest ↦ (s', rw (none, is) refl)
+    | Split.within bs is rest ↦ (bs ++ (t ∷ s'), rw is refl)
+  ]
 
   longer : (u : List Placed) → length s < length (u ++ (t ∷ s))
   longer u = omega (arith, length-append u (t ∷ s))
@@ -75,32 +75,33 @@ module _ (k k' : Limits) (fewer : (at : At) → k' at ≡ true → k at ≡ true
   stable _ _ _ o (Runs.look {s = sort} {f = f} {ts = a} r) before u e h fit =
       Runs.look (subst (λ z. Runs k' sort (f z) (before ++ (t ∷ s')) (with_rest o (u ++ (t ∷ s')))) (ap first e ∙ first_same before) (stable _ _ _ _ r before u e h fit))
   stable _ _ _ o (Runs.take {s = sort} {c = c} {within = w} {f = f} {at = at} {ts = ts} ok r) before u e h fit = elim (split (token_at c at) ts before e) [
-      Split.here none is rest ↦ let i = suffix k _ _ _ _ r in absurd (omega (arith, ap length i.1, length-append i.0 (rest_of o), ap length h, longer u, ap length rest))
+    | Split.here none is rest ↦ let i = suffix k _ _ _ _ r in absurd (omega (arith, ap length i.1, length-append i.0 (rest_of o), ap length h, longer u, ap length rest))
     | Split.within bs is rest ↦ subst (λ z. Runs k' sort (Program.take c w f) (z ++ (t ∷ s')) (with_rest o (u ++ (t ∷ s')))) (sym is)
-        (Runs.take (λ l. ok (fewer at l)) (stable _ _ _ _ r bs u rest h fit)) ]
+        (Runs.take (λ l. ok (fewer at l)) (stable _ _ _ _ r bs u rest h fit))
+  ]
   stable _ _ _ _ (Runs.take_deep {s = sort} {c = c} {within = w} {f = f} {at = at} {ts = ts} l bad) before u e h fit =
       let is = cut_same before u (sym e ∙ h) in
       let b = begins (token_at c at) ts before e in
       subst (λ z. Runs k' sort (Program.take c w f) (before ++ (t ∷ s')) (Outcome.refused Refusal.TooDeep (z ++ (t ∷ s')))) is
-        (subst (λ z. Runs k' sort (Program.take c w f) z (Outcome.refused Refusal.TooDeep z)) (sym b.1) (Runs.take_deep fit bad))
+      (subst (λ z. Runs k' sort (Program.take c w f) z (Outcome.refused Refusal.TooDeep z)) (sym b.1) (Runs.take_deep fit bad))
   stable _ _ _ _ (Runs.take_other {s = sort} {c = c} {within = w} {f = f} {ts = ts} bad) before u e h fit =
       let is = cut_same before u (sym e ∙ h) in
       subst (λ z. Runs k' sort (Program.take c w f) (before ++ (t ∷ s')) (Outcome.refused Refusal.Syntax (z ++ (t ∷ s')))) is
-        (Runs.take_other (λ q. bad (ap first e ∙ first_same before ∙ q)))
+      (Runs.take_other (λ q. bad (ap first e ∙ first_same before ∙ q)))
   stable _ _ _ o (Runs.ahead {s = sort} {c = c} {within = w} {f = f} {at = at} {ts = ts} ok r) before u e h fit =
       let b = begins (token_at c at) ts before e in
       let i = stable _ _ _ _ r before u e h fit in
       subst (λ z. Runs k' sort (Program.ahead c w f) z (with_rest o (u ++ (t ∷ s')))) (sym b.1)
-        (Runs.ahead (λ l. ok (fewer at l)) (subst (λ z. Runs k' sort (f at) z (with_rest o (u ++ (t ∷ s')))) b.1 i))
+      (Runs.ahead (λ l. ok (fewer at l)) (subst (λ z. Runs k' sort (f at) z (with_rest o (u ++ (t ∷ s')))) b.1 i))
   stable _ _ _ _ (Runs.ahead_deep {s = sort} {c = c} {within = w} {f = f} {at = at} {ts = ts} l bad) before u e h fit =
       let is = cut_same before u (sym e ∙ h) in
       let b = begins (token_at c at) ts before e in
       subst (λ z. Runs k' sort (Program.ahead c w f) (before ++ (t ∷ s')) (Outcome.refused Refusal.TooDeep (z ++ (t ∷ s')))) is
-        (subst (λ z. Runs k' sort (Program.ahead c w f) z (Outcome.refused Refusal.TooDeep z)) (sym b.1) (Runs.ahead_deep fit bad))
+      (subst (λ z. Runs k' sort (Program.ahead c w f) z (Outcome.refused Refusal.TooDeep z)) (sym b.1) (Runs.ahead_deep fit bad))
   stable _ _ _ _ (Runs.ahead_other {s = sort} {c = c} {within = w} {f = f} {ts = ts} bad) before u e h fit =
       let is = cut_same before u (sym e ∙ h) in
       subst (λ z. Runs k' sort (Program.ahead c w f) (before ++ (t ∷ s')) (Outcome.refused Refusal.Syntax (z ++ (t ∷ s')))) is
-        (Runs.ahead_other (λ q. bad (ap first e ∙ first_same before ∙ q)))
+      (Runs.ahead_other (λ q. bad (ap first e ∙ first_same before ∙ q)))
   stable _ _ _ o (Runs.call {us = us} a n) before u e h fit =
       let j = suffix k _ _ _ _ n in
       let mid = joined us j.0 u (t ∷ s) (rest_of o) j.1 h in

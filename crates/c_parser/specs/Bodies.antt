@@ -1,5 +1,5 @@
 -- What each rule does.
-use Rattle.std.specs.Prelude.{◌≡◌, ℕ, zero, suc, ◌+◌, Bool, true, false, ◌&&◌, if◌then◌else◌, List, [], ◌∷◌, Option, Some, None}
+use Rattle.std.specs.Prelude.{ℕ, zero, suc, ◌+◌, Bool, true, false, ◌&&◌, if◌then◌else◌, List, [], ◌∷◌, Option, Some, None}
 use Rattle.c_words.specs.declared.place.At.{At}
 use Rattle.c_words.specs.declared.words.Reserved.TheVariants as w
 use Rattle.c_words.specs.declared.words.Punctuator.{Punctuator}
@@ -17,9 +17,9 @@ use Rattle.c_tree.specs.GrammarTokens.{unary_operator, step_operator, weakest}
 use Rattle.c_tree.specs.GrammarExpressions.{specifier_at, call_at}
 use Rattle.c_tree.specs.GrammarDeclarations.{declarator_at, parameter_declarator_at}
 use Rattle.c_tree.specs.Grammar.{start_of_file}
-use Rattle.c_parser.specs.Programs.{Sort, Value, Rule, Program}
+use Rattle.c_parser.specs.Programs.{Sort, Rule, Program}
 use Rattle.c_parser.specs.Programs.Program.{give, refuse, look, take, ahead, call}
-use Rattle.c_parser.specs.Tests.{is_end, is_some, is_comma, is_semicolon, is_question, is_equal, is_star, is_open_paren, is_close_paren, is_open_bracket, is_close_bracket, is_open_brace, is_close_brace, goes_on, is_else, is_int, begins_specifier, begins_statement, begins_suffix, operator, assigns, opens, is_low}
+use Rattle.c_parser.specs.Tests.{is_some, is_comma, is_semicolon, is_question, is_equal, is_star, is_open_paren, is_close_paren, is_open_bracket, is_close_bracket, is_open_brace, is_close_brace, goes_on, is_else, is_int, begins_specifier, begins_statement, begins_suffix, operator, assigns, opens, is_low}
 
 abbrev pub when : {s : Sort} → (Option Token → Bool) → Program s → Program s → Program s
 when test p q = look (λ c. if test c then p else q)
@@ -67,15 +67,15 @@ binary_by k d a (Some o) = take (Token.Mark o.0) (is_low a) (λ at. call (Rule.b
 abbrev pub cast_by : Level → Option Token → Program Sort.expression
 cast_by d (Some (Token.Mark m.OpenParen)) = take (Token.Mark m.OpenParen) (opens d) (λ at.
     when begins_specifier
-      (call (Rule.type_name (suc d)) (λ t. mark m.CloseParen (λ to. call (Rule.cast (suc d)) (λ a. give (ExpressionTree.Cast at t a)))))
-      (call (Rule.parenthesized d at) (λ a. reads (Rule.postfix_rest d a))))
+    (call (Rule.type_name (suc d)) (λ t. mark m.CloseParen (λ to. call (Rule.cast (suc d)) (λ a. give (ExpressionTree.Cast at t a)))))
+    (call (Rule.parenthesized d at) (λ a. reads (Rule.postfix_rest d a))))
 cast_by d _ = reads (Rule.unary d)
 
 abbrev pub sizeof_by : Level → At → Option Token → Program Sort.expression
 sizeof_by d at (Some (Token.Mark m.OpenParen)) = take (Token.Mark m.OpenParen) (opens (suc d)) (λ from.
     when begins_specifier
-      (call (Rule.type_name (suc (suc d))) (λ t. mark m.CloseParen (λ to. give (ExpressionTree.SizeofType at t))))
-      (call (Rule.parenthesized (suc d) from) (λ a. call (Rule.postfix_rest (suc d) a) (λ b. give (ExpressionTree.SizeofExpression at b)))))
+    (call (Rule.type_name (suc (suc d))) (λ t. mark m.CloseParen (λ to. give (ExpressionTree.SizeofType at t))))
+    (call (Rule.parenthesized (suc d) from) (λ a. call (Rule.postfix_rest (suc d) a) (λ b. give (ExpressionTree.SizeofExpression at b)))))
 sizeof_by d at _ = call (Rule.unary (suc d)) (λ a. give (ExpressionTree.SizeofExpression at a))
 
 abbrev pub unary_mark : Level → Punctuator → Option StepOperator → Option UnaryOperator → Program Sort.expression
@@ -139,8 +139,8 @@ parameter_declarator_by d at n (Some (Token.Name x)) = take (Token.Name x) true 
     call (Rule.repeat is_open_bracket (Rule.array d)) (λ arrays. give (ParameterDeclaratorTree.Named own n x arrays)))
 parameter_declarator_by d at n (Some (Token.Mark m.OpenParen)) = take (Token.Mark m.OpenParen) (opens d) (λ from.
     call (Rule.parameter_declarator (suc d) at) (λ inner. if is_no_declarator inner then refuse else
-      mark m.CloseParen (λ to. call (Rule.repeat is_open_bracket (Rule.array d)) (λ arrays.
-        give (ParameterDeclaratorTree.Nested (parameter_declarator_at inner) n inner arrays)))))
+    mark m.CloseParen (λ to. call (Rule.repeat is_open_bracket (Rule.array d)) (λ arrays.
+    give (ParameterDeclaratorTree.Nested (parameter_declarator_at inner) n inner arrays)))))
 parameter_declarator_by d at n _ = call (Rule.repeat is_open_bracket (Rule.array d)) (λ arrays. give (ParameterDeclaratorTree.Unnamed at n arrays))
 
 abbrev pub declarator_by : Level → ℕ → Option Token → Program Sort.declarator
@@ -148,7 +148,7 @@ declarator_by d n (Some (Token.Name x)) = take (Token.Name x) true (λ at.
     call (Rule.repeat begins_suffix (Rule.suffix d)) (λ suffixes. give (DeclaratorTree.Named at n x suffixes)))
 declarator_by d n (Some (Token.Mark m.OpenParen)) = take (Token.Mark m.OpenParen) (opens d) (λ from.
     call (Rule.declarator (suc d)) (λ inner. mark m.CloseParen (λ to. call (Rule.repeat begins_suffix (Rule.suffix d)) (λ suffixes.
-      give (DeclaratorTree.Nested (declarator_at inner) n inner suffixes)))))
+    give (DeclaratorTree.Nested (declarator_at inner) n inner suffixes)))))
 declarator_by d n _ = refuse
 
 -- ---- statements
@@ -162,7 +162,7 @@ abbrev pub do_by : Level → At → Option Token → Program Sort.statement
 do_by d at None = refuse
 do_by d at (Some t) = if begins_statement t
     then ahead t (opens d) (λ from. call (Rule.statement (suc d)) (λ x. take (Token.Word w.While) true (λ again. mark m.OpenParen (λ from.
-      call (Rule.expression (suc d)) (λ c. mark m.CloseParen (λ to. mark m.Semicolon (λ end. give (StatementTree.DoWhile at x.0 c, false))))))))
+    call (Rule.expression (suc d)) (λ c. mark m.CloseParen (λ to. mark m.Semicolon (λ end. give (StatementTree.DoWhile at x.0 c, false))))))))
     else refuse
 
 abbrev pub value_statement : Level → Option Token → Program Sort.statement
@@ -179,8 +179,8 @@ statement_by d (Some (Token.Word w.While)) = take (Token.Word w.While) true (λ 
 statement_by d (Some (Token.Word w.Do)) = take (Token.Word w.Do) true (λ at. look (do_by d at))
 statement_by d (Some (Token.Word w.For)) = take (Token.Word w.For) true (λ at. take (Token.Mark m.OpenParen) (opens d) (λ from.
     call (Rule.for_start (suc d)) (λ start. call (Rule.optionally is_semicolon (Rule.expression (suc d))) (λ c. mark m.Semicolon (λ middle.
-      call (Rule.optionally is_close_paren (Rule.expression (suc d))) (λ u. mark m.CloseParen (λ to.
-        call (Rule.statement (suc d)) (λ x. give (StatementTree.For at start c u x.0, x.1)))))))))
+    call (Rule.optionally is_close_paren (Rule.expression (suc d))) (λ u. mark m.CloseParen (λ to.
+    call (Rule.statement (suc d)) (λ x. give (StatementTree.For at start c u x.0, x.1)))))))))
 statement_by d (Some (Token.Word w.Break)) = take (Token.Word w.Break) true (λ at. mark m.Semicolon (λ to. give (StatementTree.Break at, false)))
 statement_by d (Some (Token.Word w.Continue)) = take (Token.Word w.Continue) true (λ at. mark m.Semicolon (λ to. give (StatementTree.Continue at, false)))
 statement_by d (Some (Token.Word w.Return)) = take (Token.Word w.Return) true (λ at.
@@ -191,9 +191,9 @@ statement_by d c = value_statement d c
 abbrev pub head_by : Level → Option Token → Program Sort.head
 head_by d (Some (Token.Word w.Struct)) = take (Token.Word w.Struct) true (λ first. call Rule.identifier (λ x.
     when is_open_brace
-      (take (Token.Mark m.OpenBrace) (opens d) (λ open_at. call (Rule.member (suc d)) (λ one. call (Rule.repeat goes_on (Rule.member (suc d))) (λ members.
-        mark m.CloseBrace (λ to. give (HeadTree.Struct (record { at = x.1; tag = x.0; members = one ∷ members }), first))))))
-      (give (HeadTree.Specifier (s.Struct first x.0), first))))
+    (take (Token.Mark m.OpenBrace) (opens d) (λ open_at. call (Rule.member (suc d)) (λ one. call (Rule.repeat goes_on (Rule.member (suc d))) (λ members.
+    mark m.CloseBrace (λ to. give (HeadTree.Struct (record { at = x.1; tag = x.0; members = one ∷ members }), first))))))
+    (give (HeadTree.Specifier (s.Struct first x.0), first))))
 head_by d _ = call Rule.specifier (λ s. give (HeadTree.Specifier s, specifier_at s))
 
 abbrev pub unit_by : Option Token → Program Sort.unit
@@ -209,14 +209,13 @@ body Rule.identifier = look identifier_by
 body Rule.strings = look strings_by
 body Rule.specifier = look specifier_by
 body (Rule.stars d) = when is_star (take (Token.Mark m.Star) (opens d) (λ at. call (Rule.stars (suc d)) (λ n. give (suc n)))) (give zero)
-
 body (Rule.expression d) = call (Rule.assignment d) (λ a. reads (Rule.comma_rest d a))
 body (Rule.comma_rest d a) = when is_comma
     (take (Token.Mark m.Comma) (is_low a) (λ at. call (Rule.assignment d) (λ b. reads (Rule.comma_rest d (ExpressionTree.Comma at a b))))) (give a)
 body (Rule.assignment d) = call (Rule.conditional d) (λ a. look (λ c. assign_by d a (assigns c)))
 body (Rule.conditional d) = call (Rule.binary weakest d) (λ a. when is_question
     (take (Token.Mark m.Question) (is_low a && opens d) (λ at. call (Rule.expression (suc d)) (λ b. mark m.Colon (λ colon.
-      call (Rule.conditional (suc d)) (λ c. give (ExpressionTree.Conditional at a b c))))))
+    call (Rule.conditional (suc d)) (λ c. give (ExpressionTree.Conditional at a b c))))))
     (give a))
 body (Rule.binary zero d) = reads (Rule.cast d)
 body (Rule.binary (suc k) d) = call (Rule.binary k d) (λ a. reads (Rule.binary_rest k d a))
@@ -233,13 +232,12 @@ body (Rule.listed d) = call (Rule.assignment d) (λ a. when is_comma
 body (Rule.type_name d) = call Rule.specifier (λ s. call (Rule.type_declarator d (specifier_at s)) (λ t. give (TypeNameTree.type_name (specifier_at s) s t)))
 body (Rule.type_declarator d at) = call (Rule.stars d) (λ n. when is_open_paren
     (take (Token.Mark m.OpenParen) (opens (d + n)) (λ from. call (Rule.type_declarator (suc (d + n)) at) (λ inner. if is_nothing inner then refuse else
-      mark m.CloseParen (λ to. call (Rule.sizes (d + n)) (λ sizes. give (TypeDeclaratorTree.Nested at n inner sizes))))))
+    mark m.CloseParen (λ to. call (Rule.sizes (d + n)) (λ sizes. give (TypeDeclaratorTree.Nested at n inner sizes))))))
     (call (Rule.sizes (d + n)) (λ sizes. give (TypeDeclaratorTree.Direct at n sizes))))
 body (Rule.sizes d) = when is_open_bracket
     (take (Token.Mark m.OpenBracket) (opens d) (λ at. call (Rule.conditional (suc d)) (λ c. mark m.CloseBracket (λ to.
-      call (Rule.sizes d) (λ rest. give (ExpressionTrees.more c rest))))))
+    call (Rule.sizes d) (λ rest. give (ExpressionTrees.more c rest))))))
     (give ExpressionTrees.none)
-
 body (Rule.array d) = take (Token.Mark m.OpenBracket) (opens d) (λ at. call (Rule.optionally is_close_bracket (Rule.conditional (suc d))) (λ size.
     mark m.CloseBracket (λ to. give (record { at = at; size = size }))))
 body (Rule.parameter_declarator d at) = call (Rule.stars d) (λ n. look (parameter_declarator_by (d + n) at n))
@@ -248,7 +246,7 @@ body (Rule.parameter d) = call Rule.specifier (λ s. call (Rule.parameter_declar
 body (Rule.parameters d) = call (Rule.commas (Rule.parameter d)) (λ ps. parameters_of ps)
 body (Rule.suffix d) = when is_open_bracket (call (Rule.array d) (λ a. give (SuffixTree.Array a)))
     (take (Token.Mark m.OpenParen) (opens d) (λ at. call (Rule.optionally is_close_paren (Rule.parameters (suc d))) (λ ps.
-      mark m.CloseParen (λ to. give (SuffixTree.Function at ps)))))
+    mark m.CloseParen (λ to. give (SuffixTree.Function at ps)))))
 body (Rule.declarator d) = call (Rule.stars d) (λ n. look (declarator_by (d + n) n))
 body (Rule.initializer d) = when is_open_brace
     (take (Token.Mark m.OpenBrace) (opens d) (λ at. call (Rule.parts (suc d)) (λ ps. mark m.CloseBrace (λ to. give (InitializerTree.Braced at ps)))))
@@ -265,7 +263,6 @@ body (Rule.declaration d) = call Rule.specifier (λ s. when is_semicolon
     (call (Rule.commas (Rule.init_declarator d)) (λ xs. mark m.Semicolon (λ to. give (record { at = specifier_at s; specifier = s; declarators = xs })))))
 body (Rule.member d) = call Rule.specifier (λ s. call (Rule.commas (Rule.declarator d)) (λ xs.
     mark m.Semicolon (λ to. give (record { at = specifier_at s; specifier = s; declarators = xs }))))
-
 body (Rule.for_start d) = when begins_specifier (call (Rule.declaration d) (λ x. give (ForStartTree.Declaration x)))
     (call (Rule.optionally is_semicolon (Rule.expression d)) (λ a. mark m.Semicolon (λ to. give (ForStartTree.Expression a))))
 body (Rule.statement d) = look (statement_by d)
@@ -277,7 +274,7 @@ body (Rule.head d) = look (head_by d)
 body (Rule.external d) = call (Rule.head d) (λ h. when is_semicolon
     (mark m.Semicolon (λ to. give (ExternalTree.Declaration h.1 h.0 [])))
     (call (Rule.declarator d) (λ t. when is_open_brace
-      (call (Rule.block d) (λ x. give (ExternalTree.Function h.1 h.0 t x)))
-      (call (Rule.init_rest d t) (λ i. call (Rule.commas_rest (Rule.init_declarator d) i) (λ xs. mark m.Semicolon (λ to.
-        give (ExternalTree.Declaration h.1 h.0 xs))))))))
+    (call (Rule.block d) (λ x. give (ExternalTree.Function h.1 h.0 t x)))
+    (call (Rule.init_rest d t) (λ i. call (Rule.commas_rest (Rule.init_declarator d) i) (λ xs. mark m.Semicolon (λ to.
+    give (ExternalTree.Declaration h.1 h.0 xs))))))))
 body Rule.unit = look unit_by

@@ -57,13 +57,11 @@ pub data Rule : Sort → Type 0 where
   -- one X or more, with commas between; and what follows the first
   commas : {s : Sort} → Rule s → Rule (Sort.many s)
   commas_rest : {s : Sort} → Rule s → Value s → Rule (Sort.many s)
-
   identifier : Rule Sort.identifier
   -- further strings behind one
   strings : Rule Sort.pieces
   specifier : Rule Sort.specifier
   stars : Level → Rule Sort.count
-
   expression : Level → Rule Sort.expression
   comma_rest : Level → ExpressionTree → Rule Sort.expression
   assignment : Level → Rule Sort.expression
@@ -82,7 +80,6 @@ pub data Rule : Sort → Type 0 where
   type_name : Level → Rule Sort.type_name
   type_declarator : Level → At → Rule Sort.type_declarator
   sizes : Level → Rule Sort.expressions
-
   array : Level → Rule Sort.array
   parameter_declarator : Level → At → Rule Sort.parameter_declarator
   parameter : Level → Rule Sort.parameter
@@ -96,7 +93,6 @@ pub data Rule : Sort → Type 0 where
   init_rest : Level → DeclaratorTree → Rule Sort.init_declarator
   declaration : Level → Rule Sort.declaration
   member : Level → Rule Sort.member
-
   for_start : Level → Rule Sort.for_start
   statement : Level → Rule Sort.statement
   block : Level → Rule Sort.block
