@@ -1,4 +1,5 @@
 pub mod Rule
 pub mod Conversions
 pub mod Operators
+pub mod Sound
 pub mod Views

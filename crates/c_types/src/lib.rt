@@ -5,6 +5,7 @@ pub mod assignments;
 pub mod binary;
 pub mod conversions;
 pub mod error;
+pub mod laws;
 pub mod layout;
 pub mod places;
 pub mod sizes;
