@@ -110,7 +110,8 @@ pub fn common(a: &Ty, b: &Ty) -> Ty
     }
 }
 
-fn is_unsigned(ty: &Ty) -> bool
+/// Whether the type is `unsigned int`.
+pub fn is_unsigned(ty: &Ty) -> bool
     ensures { result ≡ types.is_unsigned (ty_of ty.now) }
 {
     match ty {

@@ -3,6 +3,7 @@
 
 pub mod assignments;
 pub mod binary;
+pub mod constants;
 pub mod conversions;
 pub mod error;
 pub mod laws;
