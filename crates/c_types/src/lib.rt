@@ -10,4 +10,6 @@ pub mod laws;
 pub mod layout;
 pub mod places;
 pub mod sizes;
+#[cfg(test)]
+mod tests;
 pub mod unary;
