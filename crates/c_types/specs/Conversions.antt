@@ -1,6 +1,5 @@
 -- The conversions that the language makes by itself (C11 6.3), and what a type lets be done.
-use Rattle.std.specs.Prelude.{◌≡◌, ℕ, Bool, true, false, ◌&&◌, ◌||◌, not, if◌then◌else◌, Option, Some, None, Ok, Err, List}
-use Rattle.c_words.specs.declared.place.At.{At}
+use Rattle.std.specs.Prelude.{ℕ, Bool, true, false, ◌&&◌, ◌||◌, if◌then◌else◌, Ok, Err, List}
 use Rattle.c_typed.specs.declared.typed_expr.Conversion.{Conversion}
 use Rattle.c_typed.specs.declared.typed_expr.Conversion.TheVariants.{ArrayToPointer, NumberToNumber, NullToPointer, PointerToPointer}
 use Rattle.c_types.specs.declared.error.TypeError.TheVariants.{BadType}

@@ -1,5 +1,5 @@
 -- The rules of the operators (C11 6.5), given the operands: the typed expression, or the rule that fails.
-use Rattle.std.specs.Prelude.{◌≡◌, ℕ, suc, Bool, true, false, ◌==◌, ◌&&◌, ◌||◌, not, cond, if◌then◌else◌, Option, Some, None, Ok, Err, List, [], ◌∷◌, slice_get, nat_eq}
+use Rattle.std.specs.Prelude.{ℕ, suc, Bool, ◌&&◌, ◌||◌, not, if◌then◌else◌, Option, Some, None, Ok, Err, List, [], ◌∷◌, slice_get, nat_eq}
 use Rattle.std.specs.Cmp.Lexicographic.{pointwise}
 use Rattle.c_words.specs.declared.place.At.{At}
 use Rattle.c_words.specs.declared.operators.UnaryOperator.{UnaryOperator}
@@ -10,7 +10,6 @@ use Rattle.c_words.specs.declared.operators.AssignOperator.{AssignOperator}
 use Rattle.c_words.specs.declared.operators.AssignOperator.TheVariants as assign
 use Rattle.c_words.specs.declared.operators.StepOperator.{StepOperator}
 use Rattle.c_typed.specs.declared.typed_expr.Called.{Called}
-use Rattle.c_types.specs.declared.error.TypeError.{TypeError}
 use Rattle.c_types.specs.declared.error.TypeError.TheVariants.{BadType}
 use Rattle.c_typed.specs.Types.{CType, same, is_number, is_pointer, is_array, is_struct, is_scalar, common, promoted}
 use Rattle.c_typed.specs.TypedTree.{CExpr, CForm, CExprs, CMember, CStruct, type_of}
@@ -36,7 +35,7 @@ product at op x y =
 unfoldable pub shifted : At → BinaryOperator → CExpr → CExpr → Rule CExpr
 shifted at op x y =
     refuse (not (both_numbers x y)) (BadType at.line 7)
-      (Ok (CExpr.expr at (promoted (type_of x)) (CForm.Binary op (as_promoted x) (as_promoted y))))
+    (Ok (CExpr.expr at (promoted (type_of x)) (CForm.Binary op (as_promoted x) (as_promoted y))))
 
 -- a pointer to a complete type, and a number
 abbrev pub is_move : List CStruct → CExpr → CExpr → Bool
@@ -189,7 +188,7 @@ unfoldable pub alternatives : At → CExpr → CExpr → CExpr → Rule CExpr
 alternatives at c x y =
     if both_numbers x y
     then Ok (CExpr.expr at (common (type_of x) (type_of y))
-               (CForm.Conditional c (as_number (common (type_of x) (type_of y)) x) (as_number (common (type_of x) (type_of y)) y)))
+    (CForm.Conditional c (as_number (common (type_of x) (type_of y)) x) (as_number (common (type_of x) (type_of y)) y)))
     else if is_void (type_of x) && is_void (type_of y) then Ok (CExpr.expr at CType.Void (CForm.Conditional c x y))
     else alternatives_at at c x y (meeting_type x y)
 
@@ -277,7 +276,7 @@ set_to at x y =
 unfoldable pub reckoned : At → AssignOperator → CExpr → CExpr → Rule CExpr
 reckoned at op x y =
     refuse (not (both_numbers x y)) (BadType at.line 7)
-      (Ok (CExpr.expr at (type_of x) (CForm.Assign op x (as_number (common (type_of x) (type_of y)) y))))
+    (Ok (CExpr.expr at (type_of x) (CForm.Assign op x (as_number (common (type_of x) (type_of y)) y))))
 
 unfoldable pub shifted_in : At → AssignOperator → CExpr → CExpr → Rule CExpr
 shifted_in at op x y =

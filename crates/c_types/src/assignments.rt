@@ -52,7 +52,10 @@ fn reckoned(
     ensures { Gives expr_of result (spec.reckoned at operator (expr_of x) (expr_of y)) }
 {
     if !both_numbers(&x, &y) {
-        return Err(TypeError::BadType { line: at.line, rule: 7 });
+        return Err(TypeError::BadType {
+            line: at.line,
+            rule: 7,
+        });
     }
     let both = common(&x.ty, &y.ty);
     let y = as_number(alloc, &both, y)?;
@@ -71,7 +74,10 @@ fn shifted_in(
     ensures { Gives expr_of result (spec.shifted_in at operator (expr_of x) (expr_of y)) }
 {
     if !both_numbers(&x, &y) {
-        return Err(TypeError::BadType { line: at.line, rule: 7 });
+        return Err(TypeError::BadType {
+            line: at.line,
+            rule: 7,
+        });
     }
     let y = as_promoted(alloc, y)?;
     let ty = x.ty.copied(alloc)?;
@@ -100,7 +106,10 @@ fn changed(
         let ty = x.ty.copied(alloc)?;
         return Ok(TypedExpr::assign(alloc, at, ty, operator, x, y)?);
     }
-    Err(TypeError::BadType { line: at.line, rule: sum_rule(&x, &y) })
+    Err(TypeError::BadType {
+        line: at.line,
+        rule: sum_rule(&x, &y),
+    })
 }
 
 /// An assignment, its sides as they are written.
@@ -116,7 +125,10 @@ pub fn assign(
     ensures { Gives expr_of result (spec.assign_rule (map struct_of structs.now) at operator (expr_of x) (expr_of y)) }
 {
     if !is_assignable(&x) {
-        return Err(TypeError::BadType { line: at.line, rule: 6 });
+        return Err(TypeError::BadType {
+            line: at.line,
+            rule: 6,
+        });
     }
     match operator {
         AssignOperator::Assign => set_to(alloc, at, x, y),

@@ -4,8 +4,15 @@ ghost use Rattle.c_typed.specs.TypesViewed.{ty_of};
 ghost use Rattle.c_typed.specs.TypedViews.{expr_of, struct_of};
 ghost use Rattle.c_types.specs.Rule.{Gives};
 ghost use Rattle.c_types.specs.Operators as spec;
+ghost use Rattle.std.specs.Prelude.{IfOk, Option};
+ghost use Rattle.std.specs.Option.{option_map};
+ghost use Rattle.c_typed.specs.Types as types;
+ghost use Rattle.c_typed.specs.TypedOperands as operands;
 
-use crate::conversions::{as_number, as_pointer, as_promoted, common, decayed, is_scalar, is_void, is_void_pointer, promoted};
+use crate::conversions::{
+    as_number, as_pointer, as_promoted, common, decayed, is_scalar, is_void, is_void_pointer,
+    promoted,
+};
 use crate::error::TypeError;
 use crate::sizes::points_to_complete;
 use crate::unary::tested;
@@ -14,11 +21,6 @@ use c_typed::types::{StructType, Ty};
 use c_words::operators::BinaryOperator;
 use c_words::place::At;
 use std::alloc::{AllocError, Global};
-
-ghost use Rattle.std.specs.Prelude.{IfOk, Option};
-ghost use Rattle.std.specs.Option.{option_map};
-ghost use Rattle.c_typed.specs.Types as types;
-ghost use Rattle.c_typed.specs.TypedOperands as operands;
 
 /// Whether both are numbers.
 pub fn both_numbers(x: &TypedExpr, y: &TypedExpr) -> bool
@@ -55,7 +57,10 @@ fn product(
     ensures { Gives expr_of result (spec.product at operator (expr_of x) (expr_of y)) }
 {
     if !both_numbers(&x, &y) {
-        return Err(TypeError::BadType { line: at.line, rule: 7 });
+        return Err(TypeError::BadType {
+            line: at.line,
+            rule: 7,
+        });
     }
     let ty = common(&x.ty, &y.ty);
     Ok(on_numbers(alloc, at, ty, operator, x, y)?)
@@ -72,7 +77,10 @@ fn shifted(
     ensures { Gives expr_of result (spec.shifted at operator (expr_of x) (expr_of y)) }
 {
     if !both_numbers(&x, &y) {
-        return Err(TypeError::BadType { line: at.line, rule: 7 });
+        return Err(TypeError::BadType {
+            line: at.line,
+            rule: 7,
+        });
     }
     let ty = promoted(&x.ty);
     let x = as_promoted(alloc, x)?;
@@ -91,7 +99,11 @@ pub fn is_move(structs: &[StructType], x: &TypedExpr, y: &TypedExpr) -> bool
 pub fn sum_rule(x: &TypedExpr, y: &TypedExpr) -> u8
     ensures { result ≡ spec.sum_rule (expr_of x.now) (expr_of y.now) }
 {
-    if x.ty.is_pointer() || y.ty.is_pointer() { 8 } else { 7 }
+    if x.ty.is_pointer() || y.ty.is_pointer() {
+        8
+    } else {
+        7
+    }
 }
 
 #[tactic(auto, unfolding(crate::specs::Operators::added))]
@@ -118,7 +130,10 @@ fn added(
         let x = as_promoted(alloc, x)?;
         return Ok(TypedExpr::binary(alloc, at, ty, BinaryOperator::Add, x, y)?);
     }
-    Err(TypeError::BadType { line: at.line, rule: sum_rule(&x, &y) })
+    Err(TypeError::BadType {
+        line: at.line,
+        rule: sum_rule(&x, &y),
+    })
 }
 
 #[tactic(auto, unfolding(crate::specs::Operators::subtracted))]
@@ -143,7 +158,10 @@ fn subtracted(
     if points_to_complete(structs, &x.ty) && x.ty.is_same(&y.ty) {
         return Ok(TypedExpr::binary(alloc, at, Ty::Int, BinaryOperator::Subtract, x, y)?);
     }
-    Err(TypeError::BadType { line: at.line, rule: sum_rule(&x, &y) })
+    Err(TypeError::BadType {
+        line: at.line,
+        rule: sum_rule(&x, &y),
+    })
 }
 
 #[tactic(auto, unfolding(crate::specs::Operators::ordered))]
@@ -162,7 +180,10 @@ fn ordered(
     if x.ty.is_pointer() && x.ty.is_same(&y.ty) {
         return Ok(TypedExpr::binary(alloc, at, Ty::Int, operator, x, y)?);
     }
-    Err(TypeError::BadType { line: at.line, rule: 9 })
+    Err(TypeError::BadType {
+        line: at.line,
+        rule: 9,
+    })
 }
 
 /// The type at which two pointers meet (C11 6.5.9, 6.5.15).
@@ -178,7 +199,10 @@ fn meeting_type(alloc: Global, x: &TypedExpr, y: &TypedExpr) -> Result<Option<Ty
     if x.is_null() && y.ty.is_pointer() {
         return Ok(Some(y.ty.copied(alloc)?));
     }
-    if x.ty.is_pointer() && y.ty.is_pointer() && (is_void_pointer(&x.ty) || is_void_pointer(&y.ty)) {
+    if x.ty.is_pointer()
+        && y.ty.is_pointer()
+        && (is_void_pointer(&x.ty) || is_void_pointer(&y.ty))
+    {
         return Ok(Some(Ty::pointer(alloc, Ty::Void)?));
     }
     Ok(None)
@@ -198,7 +222,10 @@ fn equated(
         return Ok(on_numbers(alloc, at, Ty::Int, operator, x, y)?);
     }
     match meeting_type(alloc, &x, &y)? {
-        None => Err(TypeError::BadType { line: at.line, rule: 9 }),
+        None => Err(TypeError::BadType {
+            line: at.line,
+            rule: 9,
+        }),
         Some(ty) => {
             let x = as_pointer(alloc, &ty, x)?;
             let y = as_pointer(alloc, &ty, y)?;
@@ -218,7 +245,10 @@ fn logical(
     ensures { Gives expr_of result (spec.logical at operator (expr_of x) (expr_of y)) }
 {
     if !(is_scalar(&x.ty) && is_scalar(&y.ty)) {
-        return Err(TypeError::BadType { line: at.line, rule: 14 });
+        return Err(TypeError::BadType {
+            line: at.line,
+            rule: 14,
+        });
     }
     Ok(TypedExpr::binary(alloc, at, Ty::Int, operator, x, y)?)
 }
@@ -246,13 +276,17 @@ pub fn binary(
         | BinaryOperator::BitOr => product(alloc, at, operator, x, y),
         BinaryOperator::Add => added(alloc, structs, at, x, y),
         BinaryOperator::Subtract => subtracted(alloc, structs, at, x, y),
-        BinaryOperator::ShiftLeft | BinaryOperator::ShiftRight => shifted(alloc, at, operator, x, y),
+        BinaryOperator::ShiftLeft | BinaryOperator::ShiftRight => shifted(
+            alloc, at, operator, x, y,
+        ),
         BinaryOperator::Less
         | BinaryOperator::Greater
         | BinaryOperator::LessEqual
         | BinaryOperator::GreaterEqual => ordered(alloc, at, operator, x, y),
         BinaryOperator::Equal | BinaryOperator::NotEqual => equated(alloc, at, operator, x, y),
-        BinaryOperator::LogicalAnd | BinaryOperator::LogicalOr => logical(alloc, at, operator, x, y),
+        BinaryOperator::LogicalAnd | BinaryOperator::LogicalOr => logical(
+            alloc, at, operator, x, y,
+        ),
     }
 }
 
@@ -277,7 +311,10 @@ fn alternatives(
         return Ok(TypedExpr::conditional(alloc, at, Ty::Void, condition, x, y)?);
     }
     match meeting_type(alloc, &x, &y)? {
-        None => Err(TypeError::BadType { line: at.line, rule: 15 }),
+        None => Err(TypeError::BadType {
+            line: at.line,
+            rule: 15,
+        }),
         Some(ty) => {
             let x = as_pointer(alloc, &ty, x)?;
             let y = as_pointer(alloc, &ty, y)?;

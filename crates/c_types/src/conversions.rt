@@ -6,13 +6,18 @@ ghost use Rattle.c_typed.specs.TypedViews.{expr_of};
 ghost use Rattle.c_types.specs.Rule.{Gives};
 ghost use Rattle.c_types.specs.Conversions as spec;
 
+use crate::error::TypeError;
 use c_typed::typed_expr::{Conversion, TypedExpr};
 use c_typed::types::Ty;
-use crate::error::TypeError;
 use std::alloc::{AllocError, Global};
 
 /// The operand, converted to the type.
-pub fn converted(alloc: Global, conversion: Conversion, ty: Ty, e: TypedExpr) -> Result<TypedExpr, AllocError>
+pub fn converted(
+    alloc: Global,
+    conversion: Conversion,
+    ty: Ty,
+    e: TypedExpr,
+) -> Result<TypedExpr, AllocError>
     ensures { IfOk result (λ r. expr_of r ≡ spec.converted conversion (ty_of ty) (expr_of e)) }
 {
     TypedExpr::convert(alloc, e.at, ty, conversion, e)
@@ -87,7 +92,8 @@ pub fn is_void_pointer(ty: &Ty) -> bool
     match ty {
         Ty::Pointer(to) => match &**to {
             Ty::Void => true,
-            Ty::Char | Ty::Int | Ty::Unsigned | Ty::Struct(_) | Ty::Pointer(_) | Ty::Array(_, _) => false,
+            Ty::Char | Ty::Int | Ty::Unsigned | Ty::Struct(_) | Ty::Pointer(_) | Ty::Array(_, _) =>
+                false,
         },
         Ty::Void | Ty::Char | Ty::Int | Ty::Unsigned | Ty::Struct(_) | Ty::Array(_, _) => false,
     }
@@ -104,7 +110,8 @@ pub fn common(a: &Ty, b: &Ty) -> Ty
     }
 }
 
-fn is_unsigned(ty: &Ty) -> bool
+/// Whether the type is `unsigned int`.
+pub fn is_unsigned(ty: &Ty) -> bool
     ensures { result ≡ types.is_unsigned (ty_of ty.now) }
 {
     match ty {
@@ -150,7 +157,8 @@ pub fn is_void(ty: &Ty) -> bool
 {
     match ty {
         Ty::Void => true,
-        Ty::Char | Ty::Int | Ty::Unsigned | Ty::Struct(_) | Ty::Pointer(_) | Ty::Array(_, _) => false,
+        Ty::Char | Ty::Int | Ty::Unsigned | Ty::Struct(_) | Ty::Pointer(_) | Ty::Array(_, _) =>
+            false,
     }
 }
 

@@ -3,9 +3,13 @@
 
 pub mod assignments;
 pub mod binary;
+pub mod constants;
 pub mod conversions;
 pub mod error;
+pub mod laws;
 pub mod layout;
 pub mod places;
 pub mod sizes;
+#[cfg(test)]
+mod tests;
 pub mod unary;

@@ -28,10 +28,16 @@ pub fn index(
 {
     let x = decayed(alloc, x)?;
     match element_of(alloc, structs, &x.ty)? {
-        None => Err(TypeError::BadType { line: at.line, rule: 12 }),
+        None => Err(TypeError::BadType {
+            line: at.line,
+            rule: 12,
+        }),
         Some(ty) => {
             if !index.ty.is_number() {
-                return Err(TypeError::BadType { line: at.line, rule: 12 });
+                return Err(TypeError::BadType {
+                    line: at.line,
+                    rule: 12,
+                });
             }
             let index = as_promoted(alloc, index)?;
             Ok(TypedExpr::index(alloc, at, ty, x, index)?)
@@ -40,7 +46,11 @@ pub fn index(
 }
 
 /// The number and the type of the member of a name.
-fn member_named(alloc: Global, members: &[Member], name: &[u8]) -> Result<Option<(u32, Ty)>, TypeError>
+fn member_named(
+    alloc: Global,
+    members: &[Member],
+    name: &[u8],
+) -> Result<Option<(u32, Ty)>, TypeError>
     ensures { Gives (λ o. option_map numbered_type o) result (Ok (spec.member_named name.now 0 (map member_of members.now))) }
 {
     for i in 0..members.len() {
@@ -56,7 +66,12 @@ fn member_named(alloc: Global, members: &[Member], name: &[u8]) -> Result<Option
 }
 
 /// The number and the type of a member of the type, if it is a struct with such a member.
-fn member_in(alloc: Global, structs: &[StructType], ty: &Ty, name: &[u8]) -> Result<Option<(u32, Ty)>, TypeError>
+fn member_in(
+    alloc: Global,
+    structs: &[StructType],
+    ty: &Ty,
+    name: &[u8],
+) -> Result<Option<(u32, Ty)>, TypeError>
     ensures { Gives (λ o. option_map numbered_type o) result (Ok (spec.member_in (map struct_of structs.now) (ty_of ty.now) name.now)) }
 {
     match ty {
@@ -80,7 +95,10 @@ pub fn member(
     ensures { Gives expr_of result (spec.member_rule (map struct_of structs.now) at (expr_of x) name.now) }
 {
     match member_in(alloc, structs, &x.ty, name)? {
-        None => Err(TypeError::BadType { line: at.line, rule: 13 }),
+        None => Err(TypeError::BadType {
+            line: at.line,
+            rule: 13,
+        }),
         Some((number, ty)) => Ok(TypedExpr::member(alloc, at, ty, x, number)?),
     }
 }
@@ -98,10 +116,16 @@ pub fn arrow(
 {
     let x = decayed(alloc, x)?;
     let Some(target) = element_of(alloc, structs, &x.ty)? else {
-        return Err(TypeError::BadType { line: at.line, rule: 12 });
+        return Err(TypeError::BadType {
+            line: at.line,
+            rule: 12,
+        });
     };
     match member_in(alloc, structs, &target, name)? {
-        None => Err(TypeError::BadType { line: at.line, rule: 13 }),
+        None => Err(TypeError::BadType {
+            line: at.line,
+            rule: 13,
+        }),
         Some((number, ty)) => Ok(TypedExpr::arrow(alloc, at, ty, x, number)?),
     }
 }

@@ -4,7 +4,6 @@ ghost use Rattle.c_typed.specs.TypesViewed.{ty_of};
 ghost use Rattle.c_typed.specs.TypedViews.{expr_of, struct_of};
 ghost use Rattle.c_types.specs.Rule.{Gives};
 ghost use Rattle.c_types.specs.Operators as spec;
-
 ghost use Rattle.std.specs.Option.{option_map};
 ghost use Rattle.std.specs.Prelude.{IfOk};
 
@@ -22,7 +21,10 @@ fn referred(alloc: Global, at: At, x: TypedExpr) -> Result<TypedExpr, TypeError>
     ensures { Gives expr_of result (spec.referred at (expr_of x)) }
 {
     if !x.is_place() {
-        return Err(TypeError::BadType { line: at.line, rule: 6 });
+        return Err(TypeError::BadType {
+            line: at.line,
+            rule: 6,
+        });
     }
     let ty = Ty::pointer(alloc, x.ty.copied(alloc)?)?;
     Ok(TypedExpr::unary(alloc, at, ty, UnaryOperator::Address, x)?)
@@ -46,22 +48,38 @@ pub fn element_of(alloc: Global, structs: &[StructType], ty: &Ty) -> Result<Opti
 }
 
 #[tactic(auto, unfolding(crate::specs::Operators::followed))]
-fn followed(alloc: Global, structs: &[StructType], at: At, x: TypedExpr) -> Result<TypedExpr, TypeError>
+fn followed(
+    alloc: Global,
+    structs: &[StructType],
+    at: At,
+    x: TypedExpr,
+) -> Result<TypedExpr, TypeError>
     ensures { Gives expr_of result (spec.followed (map struct_of structs.now) at (expr_of x)) }
 {
     let x = decayed(alloc, x)?;
     match element_of(alloc, structs, &x.ty)? {
-        None => Err(TypeError::BadType { line: at.line, rule: 12 }),
+        None => Err(TypeError::BadType {
+            line: at.line,
+            rule: 12,
+        }),
         Some(ty) => Ok(TypedExpr::unary(alloc, at, ty, UnaryOperator::Dereference, x)?),
     }
 }
 
 #[tactic(auto, unfolding(crate::specs::Operators::signed))]
-fn signed(alloc: Global, at: At, operator: UnaryOperator, x: TypedExpr) -> Result<TypedExpr, TypeError>
+fn signed(
+    alloc: Global,
+    at: At,
+    operator: UnaryOperator,
+    x: TypedExpr,
+) -> Result<TypedExpr, TypeError>
     ensures { Gives expr_of result (spec.signed at operator (expr_of x)) }
 {
     if !x.ty.is_number() {
-        return Err(TypeError::BadType { line: at.line, rule: 7 });
+        return Err(TypeError::BadType {
+            line: at.line,
+            rule: 7,
+        });
     }
     let ty = promoted(&x.ty);
     let x = as_promoted(alloc, x)?;
@@ -128,11 +146,17 @@ fn steps(structs: &[StructType], at: At, x: &TypedExpr) -> Result<(), TypeError>
     ensures { Gives (λ u. u) result (spec.steps (map struct_of structs.now) at (expr_of x.now)) }
 {
     if !is_assignable(x) {
-        return Err(TypeError::BadType { line: at.line, rule: 6 });
+        return Err(TypeError::BadType {
+            line: at.line,
+            rule: 6,
+        });
     }
     match step_rule(structs, &x.ty) {
         None => Ok(()),
-        Some(rule) => Err(TypeError::BadType { line: at.line, rule }),
+        Some(rule) => Err(TypeError::BadType {
+            line: at.line,
+            rule,
+        }),
     }
 }
 
@@ -182,18 +206,29 @@ pub fn cast(alloc: Global, at: At, ty: Ty, x: TypedExpr) -> Result<TypedExpr, Ty
 {
     let x = decayed(alloc, x)?;
     if !may_cast(&ty, &x) {
-        return Err(TypeError::BadType { line: at.line, rule: 11 });
+        return Err(TypeError::BadType {
+            line: at.line,
+            rule: 11,
+        });
     }
     Ok(TypedExpr::cast(alloc, at, ty, x)?)
 }
 
 /// `sizeof x`
 #[tactic(auto, unfolding(crate::specs::Operators::measured_rule))]
-pub fn measured(alloc: Global, structs: &[StructType], at: At, x: TypedExpr) -> Result<TypedExpr, TypeError>
+pub fn measured(
+    alloc: Global,
+    structs: &[StructType],
+    at: At,
+    x: TypedExpr,
+) -> Result<TypedExpr, TypeError>
     ensures { Gives expr_of result (spec.measured_rule (map struct_of structs.now) at (expr_of x)) }
 {
     if !is_complete(structs, &x.ty) {
-        return Err(TypeError::BadType { line: at.line, rule: 1 });
+        return Err(TypeError::BadType {
+            line: at.line,
+            rule: 1,
+        });
     }
     Ok(TypedExpr::size_of(alloc, at, Ty::Unsigned, x)?)
 }
@@ -204,7 +239,14 @@ pub fn measured_type(structs: &[StructType], at: At, ty: Ty) -> Result<TypedExpr
     ensures { Gives expr_of result (spec.measured_type (map struct_of structs.now) at (ty_of ty)) }
 {
     if !is_complete(structs, &ty) {
-        return Err(TypeError::BadType { line: at.line, rule: 1 });
+        return Err(TypeError::BadType {
+            line: at.line,
+            rule: 1,
+        });
     }
-    Ok(TypedExpr { at, ty: Ty::Unsigned, form: TypedForm::SizeofType(ty) })
+    Ok(TypedExpr {
+        at,
+        ty: Ty::Unsigned,
+        form: TypedForm::SizeofType(ty),
+    })
 }
