@@ -32,7 +32,8 @@ use Rattle.source_meaning.specs.Worlds.{World, Does, outside, with_number, with_
 use Rattle.source_meaning.specs.Moves.{move, distance}
 use Rattle.source_meaning.specs.Comparisons.{same, ordered, elements_between, truth}
 use Rattle.source_meaning.specs.Copies.{copy}
-use Rattle.source_meaning.specs.Numbers.{fitted, calculated}
+use Rattle.c_typed.specs.Numbers.{fitted}
+use Rattle.source_meaning.specs.Numbers.{calculated}
 use Rattle.source_meaning.specs.Sites.{pointee}
 use Rattle.source_meaning.specs.States.{State, Runs, doing, giving, using_value, using_number, using_pointer, using_place, using_address, read, write, finish}
 
