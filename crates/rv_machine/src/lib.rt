@@ -4,11 +4,13 @@
 mod access;
 mod blocks;
 mod core_step;
+pub mod events;
 pub mod examples;
 mod frames;
 pub mod laws;
 pub mod machine;
 mod memory;
 pub mod stop;
+mod told;
 #[cfg(test)]
 mod tests;
