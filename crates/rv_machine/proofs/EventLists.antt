@@ -1,12 +1,16 @@
 -- The events of blocks, one after the other.
-use Rattle.std.proofs.Common.{◌≡◌, ℕ, ◌+◌, ◌-◌, ◌*◌, ◌%◌, ◌^◌, ◌<◌, ◌≤◌, Bool, true, false, List, [], ◌∷◌, ◌++◌, length, get_or, Option, Some, None, refl, sym, ap, subst, ◌∙◌, arith}
+use Rattle.std.proofs.Common.{◌≡◌, ℕ, ◌+◌, ◌-◌, ◌*◌, ◌%◌, ◌^◌, ◌<◌, ◌≤◌, Bool, true, false, cond, List, [], ◌∷◌, ◌++◌, length, get_or, Option, Some, None, refl, sym, ap, subst, ◌∙◌, arith}
 use Rattle.std.specs.Prelude.{map, reverse, take}
 use Rattle.std.specs.List.{AllByRecursion}
 use Rattle.std.proofs.lemmas.List.{map-append, reverse-append, take_more}
 use Rattle.std.proofs.Math.Seq.{take-length}
+use Rattle.std.proofs.lemmas.Bool.{eq-eqb}
 use Rattle.std.proofs.Math.Pow.{pow_mono}
 use Rattle.bb_watch.specs.declared.event.Event.{Event}
-use Rattle.rv_image.specs.Rules.{total_size}
+use Rattle.rv_image.specs.Rules.{Decline, total_size}
+use Rattle.rv_machine.specs.declared.frames.Entered.{Entered}
+use Rattle.rv_machine.specs.Frames.{leave, left_to, not_left}
+use Rattle.rv_machine.specs.State.{Frames}
 use Rattle.rv_machine.specs.Environment.{made_event, ended_event}
 use Rattle.rv_machine.specs.Events.{blocks_told, events_in, IsSmall, FitIn, LieInMemory}
 use Rattle.size_table.specs.Blocks.{Block, block_at}
@@ -83,3 +87,17 @@ ends_alone event ends at es e t = ap (λ (o : Option Event). events_in o ends at
 
 pub lie_ending : (ends : Bool) (at : ℕ) (es : List ℕ) → ends ≡ true → LieInMemory true at es → LieInMemory ends at es
 lie_ending ends at es t h = subst (λ (b : Bool). LieInMemory b at es) (sym t) h
+
+-- ---- The blocks of frames
+
+pub small_declines : (most : ℕ) (es : List ℕ) → most ≤ 24 → Decline most es → AllByRecursion IsSmall es
+small_declines most [] l h = tt
+small_declines most (e ∷ es) l h = (omega (arith, l, h.1), small_declines e es (omega (arith, l, h.1)) h.2)
+
+pub told_leaving : (last : Option Entered) (layout : Option (List ℕ)) (k : ℕ) (frames : Frames) (call : Entered) (es : List ℕ) (end : ℕ) → last ≡ Some call → layout ≡ Some es → call.frame ≡ k → end ≡ frames.stack + total_size es
+    → (memory : List ℕ) → blocks_told true end es ≡ map ended_event (leave last layout k frames memory).blocks
+unfolding leave
+told_leaving last layout k frames call es end l f same e memory =
+    let base : end - total_size es ≡ frames.stack = omega (arith, e) in
+    ap (λ (n : ℕ). map ended_event (reverse (blocks_from n es))) base
+    ∙ sym (rw (l, f) (ap (λ (b : Bool). map ended_event (cond b (left_to call.back es frames memory) (not_left frames memory)).blocks) (eq-eqb call.frame k same)))

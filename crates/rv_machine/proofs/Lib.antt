@@ -16,6 +16,7 @@ pub mod CallChain
 pub mod Changes
 pub mod EventLists
 pub mod JumpsTold
+pub mod EventsTold
 pub mod BlockMemory
 pub mod TableMemory
 pub mod Starts

@@ -19,6 +19,9 @@ use size_table::memory_map::{GLOBALS_START, TABLE_START, TEXT_START};
 use std::alloc::{AllocError, Global};
 use std::marker::Model;
 
+// Where the size table's bytes for the global blocks begin: it has one for 16 bytes.
+const FIRST_ENTRY: usize = 0x2A_0000;
+
 /// The machine without its environment.
 #[derive(Drop)]
 pub struct Core {
@@ -58,8 +61,12 @@ impl Core {
     {
         let mut memory = zeros(alloc)?;
         write_words(&mut memory, TEXT_START as usize, image.text.as_slice());
-        write_table(&mut memory, (TABLE_START + GLOBALS_START / 16) as usize, image.globals.as_slice());
-        write_bytes(&mut memory, GLOBALS_START as usize, image.initial.as_slice());
+        write_table(&mut memory, FIRST_ENTRY, image.globals.as_slice());
+        write_bytes(
+            &mut memory,
+            GLOBALS_START as usize,
+            image.initial.as_slice(),
+        );
         let mut registers = vec![in alloc; 0u32; 32]?;
         registers[2] = GLOBALS_START;
         registers[31] = TABLE_START;
@@ -282,14 +289,12 @@ impl Core {
         requires in_text { self.old.pc < 2097152 }
         ensures { Does self.old self.new result (links rd to self.old) }
     {
-        if to % 4 != 0 {
-            return Effect::Trapped {
-                kind: TrapKind::Fetch,
-            };
+        let next = self.pc + 4;
+        let effect = self.jump(to);
+        if effect == Effect::Went {
+            self.set(rd, next);
         }
-        self.set(rd, self.pc + 4);
-        self.pc = to;
-        Effect::Went
+        effect
     }
 
     fn branch(&mut self, taken: bool, imm: u32) -> Effect
