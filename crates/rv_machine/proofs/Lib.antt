@@ -17,6 +17,7 @@ pub mod Changes
 pub mod EventLists
 pub mod JumpsTold
 pub mod EventsTold
+pub mod RunTells
 pub mod BlockMemory
 pub mod TableMemory
 pub mod Starts

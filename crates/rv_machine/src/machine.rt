@@ -124,8 +124,8 @@ impl Machine {
             self.new (record { left = I.left input.new; is_over = I.is_over input.new; written = O.written output.new }) }
         ensures cause { FaultCause result (I.faults input.old) (I.faults input.new) (O.faults output.old) (O.faults output.new) }
     {
-        let (_, fault) = self.advance(1, input, output);
-        fault
+        let answer = self.advance(1, input, output);
+        answer.1
     }
 
     /// The events that the next instruction tells, in order, with no memory taken: at most one, or those of the blocks that

@@ -29,8 +29,7 @@ returns c = λ memory.
     let within : c.len-count.result - 1 < length calls = omega arith in
     let read : slice_get calls (c.len-count.result - 1) ≡ Some call = slice_get_read calls (length calls) (c.len-count.result - 1) call refl within c.index-call.ensures in
     let last = subst (λ n. slice_get calls (n - 1) ≡ Some call) whole read in
-    let layout = ap (slice_get c.self.inside.layouts) c.if-call-k.false ∙ c.layout-exponents.ensures.value in
     c.blocks-2.ensures
-    ∙ told_leaving (last_entered frames) (slice_get frames.layouts c.args.k) c.args.k frames call c.layout-exponents.result.now (c.self.inside.stack + c.total_size.result) last layout
+    ∙ told_leaving (last_entered frames) (slice_get frames.layouts c.args.k) c.args.k frames call c.layout-exponents.result.now (c.self.inside.stack + c.total_size.result) last c.layout-exponents.ensures.value
     (ap (λ (x : ℕ). x) c.if-call-k.false) (ap (λ (n : ℕ). c.self.inside.stack + n) c.total_size.ensures) memory
     ∙ ap (λ (f : Frames). map ended_event (leave (last_entered f) (slice_get f.layouts c.args.k) c.args.k f memory).blocks) c.self.view_is
