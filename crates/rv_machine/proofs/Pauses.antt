@@ -1,6 +1,6 @@
 -- A machine whose core goes on until it pauses.
 use Rattle.std.proofs.Common.{◌≡◌, ℕ, ◌+◌, ◌<◌, ◌≤◌, List, Option, Some, None, ◌++◌, sym, ap, subst, ◌∙◌, arith}
-use Rattle.std.specs.Prelude.{IfSome, IfNone}
+use Rattle.std.specs.Prelude.{IfSome, IfNone, IsSome}
 use Rattle.bb_words.specs.declared.kinds.TrapKind.{TrapKind}
 use Rattle.rv_machine.specs.declared.stop.Fault.{Fault}
 use Rattle.rv_machine.specs.declared.stop.Fault.TheVariants as fault
@@ -13,9 +13,9 @@ use Rattle.rv_machine.specs.Machine.{step, steps}
 use Rattle.rv_machine.specs.Runs.{Ran, Shown, Stepped, Advanced, Stops, FaultCause, fault_of, stop_at, running}
 use Rattle.size_table.specs.Blocks.{Block}
 use Rattle.rv_machine.proofs.Calls.{step_traps, step_asks}
-use Rattle.rv_machine.proofs.Outside.{ran_same}
+use Rattle.rv_machine.proofs.Outside.{ran_quiet, ran_same}
 use Rattle.rv_machine.proofs.Runs.{ran_more, ran_on, ran_still}
-use Rattle.rv_machine.proofs.Steps.{steps_none, steps_more}
+use Rattle.rv_machine.proofs.Steps.{steps_none, steps_more, step_ended}
 
 -- a core goes on by k instructions whatever stands beside it
 abbrev pub CoreRan : ℕ → Core → Core → Type 0
@@ -62,3 +62,7 @@ pub advanced_one : (fault : Option Fault) (k : ℕ) (s : State) (o : Shown) (s' 
 advanced_one None k s o s' o' h p = ran_one k s o s' o' (omega (arith, h.0, h.1)) p
 advanced_one (Some fault.Read) k s o s' o' h p = (ran_zero k s o s' o' (omega (arith, h.2)) p.0, p.1)
 advanced_one (Some fault.Write) k s o s' o' h p = (ran_zero k s o s' o' (omega (arith, h.2)) p.0, p.1)
+
+-- a machine that has ended stays
+pub ran_over : (s : State) (o : Shown) → IsSome s.ending → Ran step s o s o
+ran_over s o h = ran_quiet step s s o (λ left told. step_ended (record { machine = s; left = left; told = told }) h)

@@ -11,6 +11,6 @@ pub mod laws;
 pub mod machine;
 mod memory;
 pub mod stop;
-mod told;
 #[cfg(test)]
 mod tests;
+mod told;

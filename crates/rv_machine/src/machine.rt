@@ -9,8 +9,8 @@ use crate::core_step::Core;
 use crate::events::{Events, Told};
 use crate::frames::{Entry, Frames};
 use crate::stop::{Effect, Fault, Halt, Stop};
-use bb_watch::event::Event;
 use bb_outside::{Sink, SinkFailed, Source, SourceFailed};
+use bb_watch::event::Event;
 use bb_words::kinds::{ReportKind, TrapKind};
 use bb_words::word::Word;
 use buddy_heap::heap::Heap;
@@ -113,17 +113,19 @@ impl Machine {
         self.core.byte(at)
     }
 
-    /// Executes the next instruction of a machine that has not ended. At a fault the machine stands as it did, and a
-    /// further step does the environment call again that failed.
+    /// Executes the next instruction. A machine that has ended stays as it is. At a fault the machine stands as it did, and
+    /// a further step does the environment call again that failed.
     ///
     /// `run` is faster. A step is for a runner that also reads what each instruction tells (`events`).
     pub fn step<I: Source, O: Sink>(&mut self, input: &mut I, output: &mut O) -> Option<Fault>
-        requires { self.old.ending ≡ None }
         ensures stepped { Stepped result step
             self.old (record { left = I.left input.old; is_over = I.is_over input.old; written = O.written output.old })
             self.new (record { left = I.left input.new; is_over = I.is_over input.new; written = O.written output.new }) }
         ensures cause { FaultCause result (I.faults input.old) (I.faults input.new) (O.faults output.old) (O.faults output.new) }
     {
+        if self.ended.is_some() {
+            return None;
+        }
         let answer = self.advance(1, input, output);
         answer.1
     }
@@ -196,7 +198,8 @@ impl Machine {
         }
     }
 
-    fn stop(&self) -> Stop
+    /// Why a run of no further instruction comes back: `OutOfSteps` where the machine has not ended.
+    pub fn stop(&self) -> Stop
         ensures { result ≡ stop_of self.now.ending }
     {
         match self.ended {
