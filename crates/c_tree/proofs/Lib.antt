@@ -1,2 +1,4 @@
 pub mod GrammarExamples
+pub mod GrammarRefusals
+pub mod GrammarWeaker
 pub mod SyntaxViews

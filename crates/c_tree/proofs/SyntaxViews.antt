@@ -53,9 +53,9 @@ pub view-Eof : (at : At) → expression_tree (e.Eof at) ≡ ExpressionTree.Eof a
 unfolding expression_tree type_declarator_tree type_name_tree
 view-Eof at = search (rules, expression_lemmas)
 
-pub view-Bracketed : (at : At) (a : Box Expression Global) → expression_tree (e.Bracketed at a) ≡ ExpressionTree.Bracketed at (expression_tree a.value)
+pub view-Parenthesized : (at : At) (a : Box Expression Global) → expression_tree (e.Parenthesized at a) ≡ ExpressionTree.Parenthesized at (expression_tree a.value)
 unfolding expression_tree type_declarator_tree type_name_tree
-view-Bracketed at a = search (rules, expression_lemmas)
+view-Parenthesized at a = search (rules, expression_lemmas)
 
 pub view-Index : (at : At) (a b : Box Expression Global) → expression_tree (e.Index at a b) ≡ ExpressionTree.Index at (expression_tree a.value) (expression_tree b.value)
 unfolding expression_tree type_declarator_tree type_name_tree
@@ -126,7 +126,7 @@ unfolding expression_tree type_declarator_tree type_name_tree
 view-type-name t = search (rules, expression_lemmas)
 
 -- what each expression and type name stands for
-pub ruleset expression_views = (view-Name, view-Number, view-Character, view-Text, view-Null, view-Eof, view-Bracketed, view-Index, view-Call, view-Member, view-Arrow, view-StepAfter, view-StepBefore, view-Unary, view-SizeofType, view-SizeofExpression, view-Cast, view-Binary, view-Conditional, view-Assign, view-Comma, view-type-direct, view-type-nested, view-type-name)
+pub ruleset expression_views = (view-Name, view-Number, view-Character, view-Text, view-Null, view-Eof, view-Parenthesized, view-Index, view-Call, view-Member, view-Arrow, view-StepAfter, view-StepBefore, view-Unary, view-SizeofType, view-SizeofExpression, view-Cast, view-Binary, view-Conditional, view-Assign, view-Comma, view-type-direct, view-type-nested, view-type-name)
 
 pub view-parameter-unnamed : (at : At) (n : ℕ) (arrays : Vec Array Global) → parameter_declarator_tree (p.Unnamed at n arrays) ≡ ParameterDeclaratorTree.Unnamed at n (map array_tree arrays.items)
 unfolding parameter_declarator_tree
@@ -156,7 +156,7 @@ pub view-initializer-braced : (at : At) (xs : Vec Initializer Global) → initia
 unfolding initializer_tree
 view-initializer-braced at xs = search (rules, initializer_lemmas)
 
--- what each declarator and initialiser stands for; the other parts of declarations compute
+-- what each declarator and initializer stands for; the other parts of declarations compute
 pub ruleset declaration_views = (view-parameter-unnamed, view-parameter-named, view-parameter-nested, view-named, view-nested, view-initializer-expression, view-initializer-braced)
 
 pub view-statement-block : (x : Block) → statement_tree (s.Block x) ≡ StatementTree.Block (block_tree x)

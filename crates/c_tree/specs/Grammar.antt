@@ -5,7 +5,7 @@ use Rattle.c_words.specs.declared.words.Punctuator.TheVariants as m
 use Rattle.c_tree.specs.declared.syntax.specifiers.Specifier.{Specifier}
 use Rattle.c_words.specs.Tokens.{Placed}
 use Rattle.c_tree.specs.Syntax.{DeclaratorTree, InitDeclaratorTree, StructDefinitionTree, BlockTree, HeadTree, ExternalTree, UnitTree}
-use Rattle.c_tree.specs.GrammarLimits.{Limits}
+use Rattle.c_tree.specs.GrammarLimits.{Limits, Level, outermost}
 use Rattle.c_tree.specs.GrammarTokens.{mark, first_at, Many, Commas}
 use Rattle.c_tree.specs.GrammarExpressions.{IsSpecifier, specifier_at}
 use Rattle.c_tree.specs.GrammarDeclarations.{IsDeclarator, IsInitDeclarator, IsStructDefinition}
@@ -16,8 +16,6 @@ abbrev pub start_of_file : At
 start_of_file = record { token = 0; line = 1 }
 
 module _ (limits : Limits) where
-  open limits use {Level}
-
   -- specifier | struct_def; the place is that of the first word
   pub data IsHead : Level → At → List Placed → HeadTree → Type 0 where
     specifier : {d : Level} {ts : List Placed} {s : Specifier} → IsSpecifier ts s → IsHead d (specifier_at s) ts (HeadTree.Specifier s)
@@ -36,5 +34,5 @@ module _ (limits : Limits) where
 
   -- unit = { external }  (6.9)
   pub data Derives : List Placed → UnitTree → Type 0 where
-    unit : {ts : List Placed} {externals : List ExternalTree} → Many (IsExternal limits.outermost) ts externals
+    unit : {ts : List Placed} {externals : List ExternalTree} → Many (IsExternal outermost) ts externals
         → Derives ts (record { at = first_at ts start_of_file; externals = externals })

@@ -1,12 +1,12 @@
 -- The grammar's rules for declarations.
-use Rattle.std.specs.Prelude.{◌≡◌, ℕ, Bool, true, false, List, [], ◌∷◌, ◌++◌, Option, Some, None}
+use Rattle.std.specs.Prelude.{◌≡◌, ℕ, suc, Bool, true, false, List, [], ◌∷◌, ◌++◌, Option, Some, None}
 use Rattle.c_words.specs.declared.place.At.{At}
 use Rattle.c_words.specs.declared.words.Reserved.TheVariants as w
 use Rattle.c_words.specs.declared.words.Punctuator.TheVariants as m
 use Rattle.c_tree.specs.declared.syntax.specifiers.Specifier.{Specifier}
 use Rattle.c_words.specs.Tokens.{Token, Placed}
 use Rattle.c_tree.specs.Syntax.{ExpressionTree, ArrayTree, ParameterDeclaratorTree, ParameterTree, ParametersTree, SuffixTree, DeclaratorTree, InitializerTree, InitializerTrees, InitDeclaratorTree, DeclarationTree, MemberDeclarationTree, StructDefinitionTree}
-use Rattle.c_tree.specs.GrammarLimits.{Limits}
+use Rattle.c_tree.specs.GrammarLimits.{Limits, Level, Opens}
 use Rattle.c_tree.specs.GrammarTokens.{mark, word, identifier, Optional, Many, Commas}
 use Rattle.c_tree.specs.GrammarExpressions.{IsSpecifier, specifier_at, AreStars, IsConditional, IsAssignment}
 
@@ -32,12 +32,10 @@ is_lone_void (t ∷ []) = is_void t.token
 is_lone_void (t ∷ u ∷ ts) = false
 
 module _ (limits : Limits) where
-  open limits use {Level, Opens}
-
   -- array = "[" [ conditional ] "]"  (6.7.6.2)
   pub data IsArray : Level → List Placed → ArrayTree → Type 0 where
-    array : {d e : Level} {at : At} {ts : List Placed} {size : Option ExpressionTree}
-        → Opens d e → Optional (IsConditional limits e) ts size → (to : At)
+    array : {d : Level} {at : At} {ts : List Placed} {size : Option ExpressionTree}
+        → Opens limits at d → Optional (IsConditional limits (suc d)) ts size → (to : At)
         → IsArray d (mark m.OpenBracket at ∷ (ts ++ (mark m.CloseBracket to ∷ []))) (record { at = at; size = size })
 
   -- adecl = { "*" } [ name | "(" adecl ")" ] { array }, where brackets hold something  (6.7.6, 6.7.7); the place is that of the specifier
@@ -48,8 +46,8 @@ module _ (limits : Limits) where
     named : {d e : Level} {at own : At} {ss : List Placed} {n : ℕ} {x : List ℕ} {ts : List Placed} {arrays : List ArrayTree}
         → AreStars limits d e ss n → Many (IsArray e) ts arrays
         → IsParameterDeclarator d at (ss ++ (identifier x own ∷ ts)) (ParameterDeclaratorTree.Named own n x arrays)
-    nested : {d e f : Level} {at : At} {ss : List Placed} {n : ℕ} {first : Placed} {us : List Placed} {inner : ParameterDeclaratorTree} {ts : List Placed} {arrays : List ArrayTree}
-        → AreStars limits d e ss n → (from : At) → Opens e f → IsParameterDeclarator f at (first ∷ us) inner → (to : At) → Many (IsArray e) ts arrays
+    nested : {d e : Level} {at : At} {ss : List Placed} {n : ℕ} {first : Placed} {us : List Placed} {inner : ParameterDeclaratorTree} {ts : List Placed} {arrays : List ArrayTree}
+        → AreStars limits d e ss n → (from : At) → Opens limits from e → IsParameterDeclarator (suc e) at (first ∷ us) inner → (to : At) → Many (IsArray e) ts arrays
         → IsParameterDeclarator d at (ss ++ (mark m.OpenParen from ∷ first ∷ (us ++ (mark m.CloseParen to ∷ ts))))
         (ParameterDeclaratorTree.Nested (parameter_declarator_at inner) n inner arrays)
 
@@ -69,8 +67,8 @@ module _ (limits : Limits) where
   -- array | "(" [ params ] ")"
   pub data IsSuffix : Level → List Placed → SuffixTree → Type 0 where
     array : {d : Level} {ts : List Placed} {a : ArrayTree} → IsArray d ts a → IsSuffix d ts (SuffixTree.Array a)
-    function : {d e : Level} {at : At} {ts : List Placed} {parameters : Option ParametersTree}
-        → Opens d e → Optional (AreParameters e) ts parameters → (to : At)
+    function : {d : Level} {at : At} {ts : List Placed} {parameters : Option ParametersTree}
+        → Opens limits at d → Optional (AreParameters (suc d)) ts parameters → (to : At)
         → IsSuffix d (mark m.OpenParen at ∷ (ts ++ (mark m.CloseParen to ∷ []))) (SuffixTree.Function at parameters)
 
   -- declarator = { "*" } ( name | "(" declarator ")" ) { array | "(" [ params ] ")" }  (6.7.6)
@@ -78,8 +76,8 @@ module _ (limits : Limits) where
     named : {d e : Level} {at : At} {ss : List Placed} {n : ℕ} {x : List ℕ} {ts : List Placed} {suffixes : List SuffixTree}
         → AreStars limits d e ss n → Many (IsSuffix e) ts suffixes
         → IsDeclarator d (ss ++ (identifier x at ∷ ts)) (DeclaratorTree.Named at n x suffixes)
-    nested : {d e f : Level} {ss : List Placed} {n : ℕ} {us : List Placed} {inner : DeclaratorTree} {ts : List Placed} {suffixes : List SuffixTree}
-        → AreStars limits d e ss n → (from : At) → Opens e f → IsDeclarator f us inner → (to : At) → Many (IsSuffix e) ts suffixes
+    nested : {d e : Level} {ss : List Placed} {n : ℕ} {us : List Placed} {inner : DeclaratorTree} {ts : List Placed} {suffixes : List SuffixTree}
+        → AreStars limits d e ss n → (from : At) → Opens limits from e → IsDeclarator (suc e) us inner → (to : At) → Many (IsSuffix e) ts suffixes
         → IsDeclarator d (ss ++ (mark m.OpenParen from ∷ (us ++ (mark m.CloseParen to ∷ ts))))
         (DeclaratorTree.Nested (declarator_at inner) n inner suffixes)
 
@@ -87,11 +85,11 @@ module _ (limits : Limits) where
   mutual
     pub data IsInitializer : Level → List Placed → InitializerTree → Type 0 where
       expression : {d : Level} {ts : List Placed} {a : ExpressionTree} → IsAssignment limits d ts a → IsInitializer d ts (InitializerTree.Expression a)
-      braced : {d e : Level} {at : At} {ts : List Placed} {parts : InitializerTrees}
-          → Opens d e → AreParts e ts parts → (to : At)
+      braced : {d : Level} {at : At} {ts : List Placed} {parts : InitializerTrees}
+          → Opens limits at d → AreParts (suc d) ts parts → (to : At)
           → IsInitializer d (mark m.OpenBrace at ∷ (ts ++ (mark m.CloseBrace to ∷ []))) (InitializerTree.Braced at parts)
-      braced_comma : {d e : Level} {at : At} {ts : List Placed} {parts : InitializerTrees}
-          → Opens d e → AreParts e ts parts → (comma to : At)
+      braced_comma : {d : Level} {at : At} {ts : List Placed} {parts : InitializerTrees}
+          → Opens limits at d → AreParts (suc d) ts parts → (comma to : At)
           → IsInitializer d (mark m.OpenBrace at ∷ (ts ++ (mark m.Comma comma ∷ mark m.CloseBrace to ∷ []))) (InitializerTree.Braced at parts)
 
     -- init { "," init }
@@ -125,7 +123,7 @@ module _ (limits : Limits) where
 
   -- struct_def = "struct" name "{" member { member } "}"  (6.7.2.1); the first place is that of `struct`
   pub data IsStructDefinition : Level → At → List Placed → StructDefinitionTree → Type 0 where
-    structure : {d e : Level} {first at open_at : At} {tag : List ℕ} {ts : List Placed} {one : MemberDeclarationTree} {members : List MemberDeclarationTree}
-        → Opens d e → Many (IsMember e) ts (one ∷ members) → (to : At)
+    structure : {d : Level} {first at open_at : At} {tag : List ℕ} {ts : List Placed} {one : MemberDeclarationTree} {members : List MemberDeclarationTree}
+        → Opens limits open_at d → Many (IsMember (suc d)) ts (one ∷ members) → (to : At)
         → IsStructDefinition d first (word w.Struct first ∷ identifier tag at ∷ mark m.OpenBrace open_at ∷ (ts ++ (mark m.CloseBrace to ∷ [])))
         (record { at = at; tag = tag; members = one ∷ members })

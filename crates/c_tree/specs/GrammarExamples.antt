@@ -11,7 +11,7 @@ use Rattle.c_tree.specs.declared.syntax.specifiers.Specifier.TheVariants as s
 use Rattle.c_words.specs.Tokens.{Token, Placed}
 use Rattle.c_tree.specs.Syntax.{ExpressionTree, ExpressionTrees, TypeNameTree, TypeDeclaratorTree, ParameterDeclaratorTree, ParametersTree, SuffixTree, DeclaratorTree, InitializerTree, InitializerTrees, ForStartTree, StatementTree, BlockTree, BlockItemTree, BlockItemTrees, HeadTree, ExternalTree, UnitTree}
 use Rattle.c_tree.specs.SyntaxHeights.{height}
-use Rattle.c_tree.specs.GrammarLimits.{within_limits, without_limits}
+use Rattle.c_tree.specs.GrammarLimits.{within_limits, without_limits, outermost}
 use Rattle.c_tree.specs.GrammarTokens.{mark, identifier}
 use Rattle.c_tree.specs.GrammarExpressions.{IsExpression}
 use Rattle.c_tree.specs.GrammarDeclarations.{IsDeclaration}
@@ -50,54 +50,54 @@ Int k = TypeNameTree.type_name (at k) (s.Int (at k)) (TypeDeclaratorTree.Direct 
 
 pub record ExpressionsDerive : Type 0 where
   -- a - b - c
-  pub left_associative : IsExpression within_limits 200
+  pub left_associative : IsExpression within_limits outermost
       (placed (Token.Name a ∷ Token.Mark m.Minus ∷ Token.Name b ∷ Token.Mark m.Minus ∷ Token.Name c ∷ []))
       (ExpressionTree.Binary (at 3) (ExpressionTree.Binary (at 1) (name 0 a) op.Subtract (name 2 b)) op.Subtract (name 4 c))
   -- a + b * c
-  pub precedence : IsExpression within_limits 200
+  pub precedence : IsExpression within_limits outermost
       (placed (Token.Name a ∷ Token.Mark m.Plus ∷ Token.Name b ∷ Token.Mark m.Star ∷ Token.Name c ∷ []))
       (ExpressionTree.Binary (at 1) (name 0 a) op.Add (ExpressionTree.Binary (at 3) (name 2 b) op.Multiply (name 4 c)))
   -- a = b = c
-  pub right_associative : IsExpression within_limits 200
+  pub right_associative : IsExpression within_limits outermost
       (placed (Token.Name a ∷ Token.Mark m.Equal ∷ Token.Name b ∷ Token.Mark m.Equal ∷ Token.Name c ∷ []))
       (ExpressionTree.Assign (at 1) (name 0 a) assign.Assign (ExpressionTree.Assign (at 3) (name 2 b) assign.Assign (name 4 c)))
   -- a ? b : c
-  pub choice : IsExpression within_limits 200
+  pub choice : IsExpression within_limits outermost
       (placed (Token.Name a ∷ Token.Mark m.Question ∷ Token.Name b ∷ Token.Mark m.Colon ∷ Token.Name c ∷ []))
       (ExpressionTree.Conditional (at 1) (name 0 a) (name 2 b) (name 4 c))
   -- a, b, c
-  pub commas : IsExpression within_limits 200
+  pub commas : IsExpression within_limits outermost
       (placed (Token.Name a ∷ Token.Mark m.Comma ∷ Token.Name b ∷ Token.Mark m.Comma ∷ Token.Name c ∷ []))
       (ExpressionTree.Comma (at 3) (ExpressionTree.Comma (at 1) (name 0 a) (name 2 b)) (name 4 c))
   -- (int) a
-  pub cast : IsExpression within_limits 200
+  pub cast : IsExpression within_limits outermost
       (placed (Token.Mark m.OpenParen ∷ Token.Word w.Int ∷ Token.Mark m.CloseParen ∷ Token.Name a ∷ []))
       (ExpressionTree.Cast (at 0) (Int 1) (name 3 a))
   -- (a)
-  pub brackets : IsExpression within_limits 200
+  pub brackets : IsExpression within_limits outermost
       (placed (Token.Mark m.OpenParen ∷ Token.Name a ∷ Token.Mark m.CloseParen ∷ []))
-      (ExpressionTree.Bracketed (at 0) (name 1 a))
+      (ExpressionTree.Parenthesized (at 0) (name 1 a))
   -- sizeof (int)
-  pub sizeof_type : IsExpression within_limits 200
+  pub sizeof_type : IsExpression within_limits outermost
       (placed (Token.Word w.Sizeof ∷ Token.Mark m.OpenParen ∷ Token.Word w.Int ∷ Token.Mark m.CloseParen ∷ []))
       (ExpressionTree.SizeofType (at 0) (Int 2))
   -- sizeof (a)
-  pub sizeof_expression : IsExpression within_limits 200
+  pub sizeof_expression : IsExpression within_limits outermost
       (placed (Token.Word w.Sizeof ∷ Token.Mark m.OpenParen ∷ Token.Name a ∷ Token.Mark m.CloseParen ∷ []))
-      (ExpressionTree.SizeofExpression (at 0) (ExpressionTree.Bracketed (at 1) (name 2 a)))
+      (ExpressionTree.SizeofExpression (at 0) (ExpressionTree.Parenthesized (at 1) (name 2 a)))
   -- a(b)[1]++: the call stands at its name
-  pub postfix : IsExpression within_limits 200
+  pub postfix : IsExpression within_limits outermost
       (placed (Token.Name a ∷ Token.Mark m.OpenParen ∷ Token.Name b ∷ Token.Mark m.CloseParen ∷ Token.Mark m.OpenBracket ∷ Token.Number 1 false ∷ Token.Mark m.CloseBracket ∷ Token.Mark m.PlusPlus ∷ []))
       (ExpressionTree.StepAfter (at 7)
       (ExpressionTree.Index (at 4) (ExpressionTree.Call (at 0) (name 0 a) (ExpressionTrees.more (name 2 b) ExpressionTrees.none)) (number 5 1)) step.Increment)
   -- *a++
-  pub prefix : IsExpression within_limits 200
+  pub prefix : IsExpression within_limits outermost
       (placed (Token.Mark m.Star ∷ Token.Name a ∷ Token.Mark m.PlusPlus ∷ []))
       (ExpressionTree.Unary (at 0) unary.Dereference (ExpressionTree.StepAfter (at 2) (name 1 a) step.Increment))
 
 pub record StatementsDerive : Type 0 where
   -- int (*a)[3];
-  pub pointer_to_array : IsDeclaration within_limits 200
+  pub pointer_to_array : IsDeclaration within_limits outermost
       (placed (Token.Word w.Int ∷ Token.Mark m.OpenParen ∷ Token.Mark m.Star ∷ Token.Name a ∷ Token.Mark m.CloseParen ∷ Token.Mark m.OpenBracket ∷ Token.Number 3 false ∷ Token.Mark m.CloseBracket ∷ Token.Mark m.Semicolon ∷ []))
       (record {
         at = at 0;
@@ -109,7 +109,7 @@ pub record StatementsDerive : Type 0 where
         } ∷ [];
       })
   -- int a = { { 1 }, };
-  pub nested_initializers : IsDeclaration within_limits 200
+  pub nested_initializers : IsDeclaration within_limits outermost
       (placed (Token.Word w.Int ∷ Token.Name a ∷ Token.Mark m.Equal ∷ Token.Mark m.OpenBrace ∷ Token.Mark m.OpenBrace ∷ Token.Number 1 false ∷ Token.Mark m.CloseBrace ∷ Token.Mark m.Comma ∷ Token.Mark m.CloseBrace ∷ Token.Mark m.Semicolon ∷ []))
       (record {
         at = at 0;
@@ -122,11 +122,11 @@ pub record StatementsDerive : Type 0 where
         } ∷ [];
       })
   -- if (a) if (b) ; else ;
-  pub nearest_if : IsStatement within_limits 200 true
+  pub nearest_if : IsStatement within_limits outermost true
       (placed (Token.Word w.If ∷ Token.Mark m.OpenParen ∷ Token.Name a ∷ Token.Mark m.CloseParen ∷ Token.Word w.If ∷ Token.Mark m.OpenParen ∷ Token.Name b ∷ Token.Mark m.CloseParen ∷ Token.Mark m.Semicolon ∷ Token.Word w.Else ∷ Token.Mark m.Semicolon ∷ []))
       (StatementTree.If (at 0) (name 2 a) (StatementTree.IfElse (at 4) (name 6 b) (StatementTree.Empty (at 8)) (StatementTree.Empty (at 10))))
   -- for (int a = 0; a; a++) a;
-  pub for_declaration : IsStatement within_limits 200 false
+  pub for_declaration : IsStatement within_limits outermost false
       (placed (Token.Word w.For ∷ Token.Mark m.OpenParen ∷ Token.Word w.Int ∷ Token.Name a ∷ Token.Mark m.Equal ∷ Token.Number 0 false ∷ Token.Mark m.Semicolon ∷ Token.Name a ∷ Token.Mark m.Semicolon ∷ Token.Name a ∷ Token.Mark m.PlusPlus ∷ Token.Mark m.CloseParen ∷ Token.Name a ∷ Token.Mark m.Semicolon ∷ []))
       (StatementTree.For (at 0)
       (ForStartTree.Declaration (record {
@@ -177,7 +177,7 @@ pub record UnitsDerive : Type 0 where
 -- so many brackets around a name, and their tokens
 abbrev pub brackets_tree : ℕ → ExpressionTree
 brackets_tree zero = name 0 a
-brackets_tree (suc k) = ExpressionTree.Bracketed (at 0) (brackets_tree k)
+brackets_tree (suc k) = ExpressionTree.Parenthesized (at 0) (brackets_tree k)
 
 abbrev pub brackets_text : ℕ → List Placed
 brackets_text zero = identifier a (at 0) ∷ []
@@ -187,10 +187,10 @@ pub record NothingDerives : Type 0 where
   -- a `;` at file scope
   pub semicolon : (unit : UnitTree) → Derives without_limits (placed (Token.Mark m.Semicolon ∷ [])) unit → ⊥
   -- `return 1` without its `;`
-  pub unended : (ends : Bool) (statement : StatementTree) → IsStatement without_limits tt ends (placed (Token.Word w.Return ∷ Token.Number 1 false ∷ [])) statement → ⊥
+  pub unended : (ends : Bool) (statement : StatementTree) → IsStatement without_limits outermost ends (placed (Token.Word w.Return ∷ Token.Number 1 false ∷ [])) statement → ⊥
   -- more than 200 brackets: only the limit fails
-  pub too_deep : (k : ℕ) → 200 < k → (text : List Placed) → IsExpression within_limits 200 text (brackets_tree k) → ⊥
-  pub deep_without_limits : (k : ℕ) → IsExpression without_limits tt (brackets_text k) (brackets_tree k)
+  pub too_deep : (k : ℕ) → 200 < k → (text : List Placed) → IsExpression within_limits outermost text (brackets_tree k) → ⊥
+  pub deep_without_limits : (k : ℕ) → IsExpression without_limits outermost (brackets_text k) (brackets_tree k)
 
 pub record HeightsAre : Type 0 where
   -- a

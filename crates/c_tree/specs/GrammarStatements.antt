@@ -1,18 +1,16 @@
 -- The grammar's rules for statements.
-use Rattle.std.specs.Prelude.{Bool, true, false, List, [], ◌∷◌, ◌++◌, Option}
+use Rattle.std.specs.Prelude.{suc, Bool, true, false, List, [], ◌∷◌, ◌++◌, Option}
 use Rattle.c_words.specs.declared.place.At.{At}
 use Rattle.c_words.specs.declared.words.Reserved.TheVariants as w
 use Rattle.c_words.specs.declared.words.Punctuator.TheVariants as m
 use Rattle.c_words.specs.Tokens.{Placed}
 use Rattle.c_tree.specs.Syntax.{ExpressionTree, DeclarationTree, ForStartTree, StatementTree, BlockTree, BlockItemTree, BlockItemTrees}
-use Rattle.c_tree.specs.GrammarLimits.{Limits}
+use Rattle.c_tree.specs.GrammarLimits.{Limits, Level, Opens}
 use Rattle.c_tree.specs.GrammarTokens.{mark, word, first_at, Optional}
 use Rattle.c_tree.specs.GrammarExpressions.{IsExpression}
 use Rattle.c_tree.specs.GrammarDeclarations.{IsDeclaration}
 
 module _ (limits : Limits) where
-  open limits use {Level, Opens}
-
   -- declaration | [ expression ] ";"
   pub data IsForStart : Level → List Placed → ForStartTree → Type 0 where
     declaration : {d : Level} {ts : List Placed} {x : DeclarationTree} → IsDeclaration limits d ts x → IsForStart d ts (ForStartTree.Declaration x)
@@ -31,24 +29,24 @@ module _ (limits : Limits) where
       expression : {d : Level} {ts : List Placed} {a : ExpressionTree} → IsExpression limits d ts a → (to : At)
           → IsStatement d false (ts ++ (mark m.Semicolon to ∷ [])) (StatementTree.Expression (first_at ts to) a)
       -- "if" "(" expression ")" statement
-      only_if : {d e : Level} {at from : At} {cs : List Placed} {c : ExpressionTree} {b : Bool} {ts : List Placed} {x : StatementTree}
-          → Opens d e → IsExpression limits e cs c → (to : At) → IsStatement e b ts x
+      only_if : {d : Level} {at from : At} {cs : List Placed} {c : ExpressionTree} {b : Bool} {ts : List Placed} {x : StatementTree}
+          → Opens limits from d → IsExpression limits (suc d) cs c → (to : At) → IsStatement (suc d) b ts x
           → IsStatement d true (word w.If at ∷ mark m.OpenParen from ∷ (cs ++ (mark m.CloseParen to ∷ ts))) (StatementTree.If at c x)
       -- "if" "(" expression ")" statement "else" statement
-      if_else : {d e : Level} {at from : At} {cs : List Placed} {c : ExpressionTree} {ts : List Placed} {x : StatementTree} {b : Bool} {us : List Placed} {y : StatementTree}
-          → Opens d e → IsExpression limits e cs c → (to : At) → IsStatement e false ts x → (other : At) → IsStatement e b us y
+      if_else : {d : Level} {at from : At} {cs : List Placed} {c : ExpressionTree} {ts : List Placed} {x : StatementTree} {b : Bool} {us : List Placed} {y : StatementTree}
+          → Opens limits from d → IsExpression limits (suc d) cs c → (to : At) → IsStatement (suc d) false ts x → (other : At) → IsStatement (suc d) b us y
           → IsStatement d b (word w.If at ∷ mark m.OpenParen from ∷ (cs ++ (mark m.CloseParen to ∷ (ts ++ (word w.Else other ∷ us))))) (StatementTree.IfElse at c x y)
       -- "while" "(" expression ")" statement
-      while : {d e : Level} {at from : At} {cs : List Placed} {c : ExpressionTree} {b : Bool} {ts : List Placed} {x : StatementTree}
-          → Opens d e → IsExpression limits e cs c → (to : At) → IsStatement e b ts x
+      while : {d : Level} {at from : At} {cs : List Placed} {c : ExpressionTree} {b : Bool} {ts : List Placed} {x : StatementTree}
+          → Opens limits from d → IsExpression limits (suc d) cs c → (to : At) → IsStatement (suc d) b ts x
           → IsStatement d b (word w.While at ∷ mark m.OpenParen from ∷ (cs ++ (mark m.CloseParen to ∷ ts))) (StatementTree.While at c x)
       -- "do" statement "while" "(" expression ")" ";"
-      do_while : {d e : Level} {at : At} {b : Bool} {ts : List Placed} {x : StatementTree} {cs : List Placed} {c : ExpressionTree}
-          → Opens d e → IsStatement e b ts x → (again from : At) → IsExpression limits e cs c → (to end : At)
+      do_while : {d : Level} {at : At} {b : Bool} {ts : List Placed} {x : StatementTree} {cs : List Placed} {c : ExpressionTree}
+          → (again from : At) → Opens limits (first_at ts again) d → IsStatement (suc d) b ts x → IsExpression limits (suc d) cs c → (to end : At)
           → IsStatement d false (word w.Do at ∷ (ts ++ (word w.While again ∷ mark m.OpenParen from ∷ (cs ++ (mark m.CloseParen to ∷ mark m.Semicolon end ∷ []))))) (StatementTree.DoWhile at x c)
       -- "for" "(" ( declaration | [ expression ] ";" ) [ expression ] ";" [ expression ] ")" statement
-      for : {d e : Level} {at from : At} {ss : List Placed} {start : ForStartTree} {cs : List Placed} {c : Option ExpressionTree} {us : List Placed} {u : Option ExpressionTree} {b : Bool} {ts : List Placed} {x : StatementTree}
-          → Opens d e → IsForStart e ss start → Optional (IsExpression limits e) cs c → (middle : At) → Optional (IsExpression limits e) us u → (to : At) → IsStatement e b ts x
+      for : {d : Level} {at from : At} {ss : List Placed} {start : ForStartTree} {cs : List Placed} {c : Option ExpressionTree} {us : List Placed} {u : Option ExpressionTree} {b : Bool} {ts : List Placed} {x : StatementTree}
+          → Opens limits from d → IsForStart (suc d) ss start → Optional (IsExpression limits (suc d)) cs c → (middle : At) → Optional (IsExpression limits (suc d)) us u → (to : At) → IsStatement (suc d) b ts x
           → IsStatement d b (word w.For at ∷ mark m.OpenParen from ∷ (ss ++ (cs ++ (mark m.Semicolon middle ∷ (us ++ (mark m.CloseParen to ∷ ts)))))) (StatementTree.For at start c u x)
       -- "break" ";"
       break : {d : Level} {at to : At} → IsStatement d false (word w.Break at ∷ mark m.Semicolon to ∷ []) (StatementTree.Break at)
@@ -60,7 +58,7 @@ module _ (limits : Limits) where
 
     -- block = "{" { declaration | statement } "}"  (6.8.2)
     pub data IsBlock : Level → List Placed → BlockTree → Type 0 where
-      braces : {d e : Level} {at : At} {ts : List Placed} {items : BlockItemTrees} → Opens d e → AreItems e ts items → (to : At)
+      braces : {d : Level} {at : At} {ts : List Placed} {items : BlockItemTrees} → Opens limits at d → AreItems (suc d) ts items → (to : At)
           → IsBlock d (mark m.OpenBrace at ∷ (ts ++ (mark m.CloseBrace to ∷ []))) (BlockTree.block at items)
 
     pub data AreItems : Level → List Placed → BlockItemTrees → Type 0 where

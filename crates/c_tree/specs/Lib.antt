@@ -3,6 +3,7 @@ pub mod GrammarDeclarations
 pub mod GrammarExamples
 pub mod GrammarExpressions
 pub mod GrammarLimits
+pub mod GrammarRefusals
 pub mod GrammarStatements
 pub mod GrammarTokens
 pub mod Syntax

@@ -17,7 +17,7 @@ mutual
     Text : (at : At) (pieces : List (List ℕ)) → ExpressionTree
     Null : (at : At) → ExpressionTree
     Eof : (at : At) → ExpressionTree
-    Bracketed : (at : At) (inner : ExpressionTree) → ExpressionTree
+    Parenthesized : (at : At) (inner : ExpressionTree) → ExpressionTree
     Index : (at : At) (array index : ExpressionTree) → ExpressionTree
     Call : (at : At) (called : ExpressionTree) (arguments : ExpressionTrees) → ExpressionTree
     Member : (at : At) (object : ExpressionTree) (member : List ℕ) → ExpressionTree
@@ -71,7 +71,7 @@ pub data DeclaratorTree : Type 0 where
   Named : (at : At) (stars : ℕ) (name : List ℕ) (suffixes : List SuffixTree) → DeclaratorTree
   Nested : (at : At) (stars : ℕ) (inner : DeclaratorTree) (suffixes : List SuffixTree) → DeclaratorTree
 
--- initialisers (6.7.9)
+-- initializers (6.7.9)
 mutual
   pub data InitializerTree : Type 0 where
     Expression : (value : ExpressionTree) → InitializerTree

@@ -12,7 +12,7 @@ abbrev mutual
   height (ExpressionTree.Text at pieces) = 1
   height (ExpressionTree.Null at) = 1
   height (ExpressionTree.Eof at) = 1
-  height (ExpressionTree.Bracketed at a) = suc (height a)
+  height (ExpressionTree.Parenthesized at a) = suc (height a)
   height (ExpressionTree.Index at a b) = suc (max (height a) (height b))
   height (ExpressionTree.Call at f arguments) = suc (max (height f) (highest arguments))
   height (ExpressionTree.Member at a m) = suc (height a)

@@ -1,7 +1,7 @@
 -- Marked words. A pointer may lie less than half a slot outside its block; its word then has bit 31 set, its mark.
 -- A slot has 2 ^ g bytes, and a block is made of whole slots, so the half of its slot in which such a word lies tells
 -- on which side its block is: the slot next to it on that side is the one that owns it.
-use Rattle.std.specs.Prelude.{◌==◌, ℕ, ◌+◌, ◌-◌, ◌*◌, ◌/◌, ◌%◌, ◌^◌, ℤ, pos, negsuc, Bool, Option, Some, None, nat_lt, nat_le, int_div, if◌then◌else◌}
+use Rattle.std.specs.Prelude.{◌==◌, ℕ, suc, ◌+◌, ◌-◌, ◌*◌, ◌/◌, ◌%◌, ◌^◌, ℤ, pos, negsuc, Bool, Option, Some, None, nat_lt, nat_le, int_div, if◌then◌else◌}
 use Rattle.std.specs.declared.cmp.Ordering.{Ordering}
 use Rattle.std.specs.declared.cmp.Ordering.TheVariants.{Less, Equal, Greater}
 use Rattle.bb_words.specs.Numbers.{signed, word_of, difference as word_difference}
@@ -23,6 +23,12 @@ unmarked word = word % 2 ^ 31
 -- a word with the mark
 abbrev pub marked : (word : ℕ) → ℕ
 marked word = word % 2 ^ 31 + 2 ^ 31
+
+-- The word of a pointer to an offset of the block of 2 ^ e bytes at base: base and offset, with the mark exactly where the
+-- offset is not one of the block. `negsuc n` is -(n + 1).
+abbrev pub word_at : (base e : ℕ) → (offset : ℤ) → ℕ
+word_at base e (pos n) = if nat_lt n (2 ^ e) then base + n else 2 ^ 31 + (base + n)
+word_at base e (negsuc n) = 2 ^ 31 + (base - suc n)
 
 -- The slot of 2 ^ g bytes that owns a word. That of a word without a mark is the one of its address. A marked word
 -- points less than half a slot outside its block, so the one after it owns it, where it points to the upper half of

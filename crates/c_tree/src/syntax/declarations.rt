@@ -1,11 +1,11 @@
-//! Declarations, initialisers and the definitions of structs.
+//! Declarations, initializers and the definitions of structs.
 
-use c_words::place::{At, Name};
 use crate::syntax::declarators::Declarator;
 use crate::syntax::expressions::Expression;
 use crate::syntax::specifiers::Specifier;
+use c_words::place::{At, Name};
 
-/// An initialiser (C11 6.7.9).
+/// An initializer (C11 6.7.9).
 #[derive(Drop)]
 pub enum Initializer {
     /// One expression.
@@ -14,7 +14,7 @@ pub enum Initializer {
     Braced { at: At, parts: Vec<Initializer> },
 }
 
-/// A declarator with or without its initialiser (C11 6.7). It stands at its `=`, or at the declared name where there is
+/// A declarator with or without its initializer (C11 6.7). It stands at its `=`, or at the declared name where there is
 /// none.
 #[derive(Drop)]
 pub struct InitDeclarator {

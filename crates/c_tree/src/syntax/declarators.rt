@@ -4,9 +4,9 @@ ghost use Rattle.c_tree.specs.Syntax.{ParameterDeclaratorTree, DeclaratorTree};
 ghost use Rattle.c_tree.specs.SyntaxViews.{array_tree, parameter_declarator_tree, suffix_tree, declarator_tree};
 ghost use Rattle.c_tree.specs.GrammarDeclarations.{declarator_at, parameter_declarator_at};
 
-use c_words::place::{At, Name};
 use crate::syntax::expressions::Expression;
 use crate::syntax::specifiers::Specifier;
+use c_words::place::{At, Name};
 use std::alloc::{AllocError, Global};
 
 /// `[ size ]` (C11 6.7.6.2); no size, where the brackets are empty.

@@ -4,9 +4,9 @@ ghost use Rattle.c_tree.specs.Syntax.{ExpressionTree, TypeDeclaratorTree};
 ghost use Rattle.c_tree.specs.SyntaxViews.{expression_tree, expression_trees, type_name_tree, type_declarator_tree};
 ghost use Rattle.c_tree.specs.GrammarExpressions.{call_at};
 
+use crate::syntax::specifiers::Specifier;
 use c_words::operators::{AssignOperator, BinaryOperator, StepOperator, UnaryOperator};
 use c_words::place::{At, Bytes, Name};
-use crate::syntax::specifiers::Specifier;
 use std::alloc::{AllocError, Global};
 
 /// An expression (C11 6.5).
@@ -43,7 +43,7 @@ pub enum Expression {
         at: At,
     },
     /// `( inner )` (6.5.1)
-    Bracketed {
+    Parenthesized {
         at: At,
         inner: Box<Expression>,
     },
@@ -137,11 +137,11 @@ pub enum Expression {
 #[tactic(auto, using(crate::proofs::SyntaxViews::expression_views))]
 impl Expression {
     /// `( inner )`
-    pub fn bracketed(alloc: Global, at: At, inner: Expression) -> Result<Expression, AllocError>
+    pub fn parenthesized(alloc: Global, at: At, inner: Expression) -> Result<Expression, AllocError>
         ensures { IfOk result (λ e. expression_tree e
-            ≡ ExpressionTree.Bracketed at (expression_tree inner)) }
+            ≡ ExpressionTree.Parenthesized at (expression_tree inner)) }
     {
-        Ok(Expression::Bracketed {
+        Ok(Expression::Parenthesized {
             at,
             inner: Box::new(alloc, inner)?,
         })
@@ -377,7 +377,8 @@ impl Expression {
             Expression::Name { at, .. } => *at,
             Expression::Number { .. } | Expression::Character { .. } | Expression::Text { .. } =>
                 from,
-            Expression::Null { .. } | Expression::Eof { .. } | Expression::Bracketed { .. } => from,
+            Expression::Null { .. } | Expression::Eof { .. } | Expression::Parenthesized { .. } =>
+                from,
             Expression::Index { .. } | Expression::Call { .. } | Expression::Member { .. } => from,
             Expression::Arrow { .. } | Expression::StepAfter { .. } => from,
             Expression::StepBefore { .. } | Expression::Unary { .. } => from,

@@ -1,9 +1,9 @@
 //! Statements and blocks.
 ghost use Rattle.std.specs.Prelude.{◌≡◌, IfOk};
 
-use c_words::place::At;
 use crate::syntax::declarations::Declaration;
 use crate::syntax::expressions::Expression;
+use c_words::place::At;
 use std::alloc::{AllocError, Global};
 
 /// A statement (C11 6.8).

@@ -1,8 +1,8 @@
 //! With ample memory each constructor gives its node.
 use super::*;
+use bb_words::list::List;
 use c_words::operators::{AssignOperator, BinaryOperator, StepOperator, UnaryOperator};
 use c_words::place::At;
-use bb_words::list::List;
 use std::test::Fail;
 
 const AT: At = At { token: 0, line: 1 };
@@ -18,7 +18,7 @@ fn one() -> Expression {
 #[test]
 fn expressions_are_made(rt: HostRuntime) -> Result<(), Fail> {
     let alloc = rt.alloc();
-    let e = Expression::bracketed(alloc, AT, one())?;
+    let e = Expression::parenthesized(alloc, AT, one())?;
     let e = Expression::index(alloc, AT, e, one())?;
     let e = Expression::call(alloc, AT, e, Vec::new(alloc))?;
     let e = Expression::member(alloc, AT, e, List::new(alloc))?;

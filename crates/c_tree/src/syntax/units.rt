@@ -1,10 +1,10 @@
 //! The declarations of a file.
 
-use c_words::place::At;
 use crate::syntax::declarations::{InitDeclarator, StructDefinition};
 use crate::syntax::declarators::Declarator;
 use crate::syntax::specifiers::Specifier;
 use crate::syntax::statements::Block;
+use c_words::place::At;
 
 /// What a declaration of the file begins with.
 #[derive(Drop)]
