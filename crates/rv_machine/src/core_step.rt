@@ -1,5 +1,5 @@
 //! The registers, the program counter and the memory, and the instructions on them.
-ghost use Rattle.std.specs.Prelude.{◌≡◌, ◌+◌, ◌*◌, ◌/◌, ◌%◌, ◌<◌, ◌≤◌, ◌^◌, Bool, List, [], ◌∷◌, length, slice_index, IfOk};
+ghost use Rattle.std.specs.Prelude.{◌≡◌, ◌+◌, ◌*◌, ◌/◌, ◌%◌, ◌<◌, ◌≤◌, ◌^◌, Bool, List, [], ◌∷◌, length, slice_index, IfOk, IfSome};
 ghost use Rattle.std.specs.Int.{to_le_bytes, w16, w32};
 ghost use Rattle.rv_code.specs.Bits.{extended};
 ghost use Rattle.rv_code.specs.Code.{Fits};
@@ -47,7 +47,7 @@ impl Core {
     ghost use Rattle.size_table.specs.Made.{made, ended};
     ghost use Rattle.size_table.specs.Memory.{half_at, word_at};
     ghost use Rattle.rv_machine.specs.State.{register_of, set_register, next, gives, with_memory};
-    ghost use Rattle.rv_machine.specs.Instruction.{address, loads, stores, jumps, links, branches, effect, core_step, Does};
+    ghost use Rattle.rv_machine.specs.Instruction.{address, loads, stores, jumps, links, branches, effect, core_step, instruction_at, Does};
     ghost use Rattle.rv_machine.specs.Start.{start};
     ghost use Rattle.rv_machine.specs.State.{Frames};
     ghost use Rattle.rv_machine.specs.Machine.{steps};
@@ -134,6 +134,15 @@ impl Core {
             },
             Some(instr) => self.execute(instr),
         }
+    }
+
+    /// The instruction at the program counter, if its word is that of one.
+    pub(crate) fn instruction(&self) -> Option<Instr>
+        requires { self.now.pc < TABLE_START }
+        ensures value { result ≡ instruction_at self.now }
+        ensures fits { IfSome result Fits }
+    {
+        decode(Word(word_at(&self.memory, self.pc as usize)))
     }
 
     // The table of the instructions, a row for each.
@@ -244,7 +253,7 @@ impl Core {
     }
 
     // A register plus an immediate.
-    fn address(&self, rs1: u8, imm: u32) -> u32
+    pub(crate) fn address(&self, rs1: u8, imm: u32) -> u32
         requires { rs1 < 32 }
         ensures { result ≡ address self.now rs1 imm }
     {
