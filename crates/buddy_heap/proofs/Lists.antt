@@ -6,7 +6,7 @@ use Rattle.std.proofs.lemmas.Nat.{pow_pos, pow-add}
 use Rattle.std.proofs.Math.Pow.{pow_mono}
 use Rattle.std.proofs.lemmas.Option.{same_Some, none-some}
 use Rattle.size_table.specs.Blocks.{Block, block_at, without, IsBlock, MissEachOther, MissesAll}
-use Rattle.buddy_heap.specs.Places.{IsRoom, IsPlaceOf, is_clear, first_of, place_of, with_block, block_from, blocks_of, AreBlocks, LieInOrder, count_to, next_index, index_of}
+use Rattle.buddy_heap.specs.Places.{IsRoom, IsPlaceOf, is_clear, place_or, first_of, place_of, with_block, block_from, blocks_of, AreBlocks, HaveExponents, LieInOrder, count_to, next_index, index_of}
 use Rattle.buddy_heap.proofs.Places.{whole, place_least}
 
 -- ---- Places that are left
@@ -33,7 +33,7 @@ left_found bs e at l clear h = by h.places h.sum h.same
   where
     by : (n : ℕ) → at + n * 2 ^ e ≡ 33554432 → first_of n at e bs ≡ place_of bs e → Some at ≡ place_of bs e
     by zero s e2 = absurd (omega (arith, l, s))
-    by (suc n) s e2 = sym (ap (λ (t : Bool). cond t (Some at) (first_of n (at + 2 ^ e) e bs)) clear) ∙ e2
+    by (suc n) s e2 = sym (ap (λ (t : Bool). place_or t at (first_of n (at + 2 ^ e) e) bs) clear) ∙ e2
 
 pub left_more : (bs : List Block) (e at : ℕ) → at < 33554432 → is_clear (block_at at e) bs ≡ false → HasLeft bs e at → HasLeft bs e (at + 2 ^ e)
 unfolding first_of
@@ -41,7 +41,7 @@ left_more bs e at l clear h = by h.places h.sum h.same
   where
     by : (n : ℕ) → at + n * 2 ^ e ≡ 33554432 → first_of n at e bs ≡ place_of bs e → HasLeft bs e (at + 2 ^ e)
     by zero s e2 = absurd (omega (arith, l, s))
-    by (suc n) s e2 = record { places = n; sum = omega (arith, s); same = sym (ap (λ (t : Bool). cond t (Some at) (first_of n (at + 2 ^ e) e bs)) clear) ∙ e2 }
+    by (suc n) s e2 = record { places = n; sum = omega (arith, s); same = sym (ap (λ (t : Bool). place_or t at (first_of n (at + 2 ^ e) e) bs) clear) ∙ e2 }
 
 pub left_none : (bs : List Block) (e at : ℕ) → 33554432 ≤ at → HasLeft bs e at → None ≡ place_of bs e
 unfolding first_of
@@ -192,3 +192,7 @@ is_taken ps e base low high a o is =
     let long = insert_long (count_to base ps) (base, e) ps within in
     let fits = order_room 16777216 (insert ps (count_to base ps) (base, e)) blocks order in
     record { few = omega (arith, long, fits); blocks = blocks; order = order; block = block }
+
+pub have_exponents : (ps : List (ℕ × ℕ)) → AreBlocks ps → HaveExponents ps
+have_exponents [] blocks = tt
+have_exponents (p ∷ ps) blocks = (blocks.0.most, have_exponents ps blocks.1)

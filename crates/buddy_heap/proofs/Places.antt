@@ -1,9 +1,9 @@
 -- The first clear place is the least one.
-use Rattle.std.proofs.Common.{◌≡◌, ℕ, zero, suc, ◌+◌, ◌-◌, ◌*◌, ◌/◌, ◌%◌, ◌^◌, ◌<◌, ◌≤◌, Bool, true, false, ◌&&◌, ◌||◌, cond, leb, List, [], ◌∷◌, Option, Some, None, refl, sym, ap, subst, ◌∙◌, inl, inr, arith}
+use Rattle.std.proofs.Common.{◌≡◌, ℕ, zero, suc, ◌+◌, ◌-◌, ◌*◌, ◌/◌, ◌%◌, ◌^◌, ◌<◌, ◌≤◌, Bool, true, false, ◌&&◌, ◌||◌, leb, List, [], ◌∷◌, Option, Some, None, refl, sym, ap, subst, ◌∙◌, inl, inr, arith}
 use Rattle.std.proofs.lemmas.Bool.{leb-true, leb-false}
 use Rattle.std.proofs.lemmas.Nat.{pow_pos, pow-add, shr_split, mod_low}
 use Rattle.size_table.specs.Blocks.{Block, block_at, end_of, MissEachOther, MissesAll}
-use Rattle.buddy_heap.specs.Places.{IsRoom, IsPlaceOf, is_clear, first_of, place_of}
+use Rattle.buddy_heap.specs.Places.{IsRoom, IsPlaceOf, is_clear, place_or, first_of, place_of}
 
 -- ---- The test
 
@@ -81,7 +81,7 @@ least_from (suc places) p e bs low a sum before =
         absurd (meets (block_at p e) bs c (subst (λ (k : ℕ). MissesAll (block_at k e) bs) same r.clear))
     higher c q r false y = next_multiple p q e a r.aligned (leb-false q p y)
 
-    by : (((q : ℕ) → IsRoom bs e q → p + 2 ^ e ≤ q) → IsPlaceOf bs e (first_of places (p + 2 ^ e) e bs)) → (clear : Bool) → is_clear (block_at p e) bs ≡ clear → IsPlaceOf bs e (cond clear (Some p) (first_of places (p + 2 ^ e) e bs))
+    by : (((q : ℕ) → IsRoom bs e q → p + 2 ^ e ≤ q) → IsPlaceOf bs e (first_of places (p + 2 ^ e) e bs)) → (clear : Bool) → is_clear (block_at p e) bs ≡ clear → IsPlaceOf bs e (place_or clear p (first_of places (p + 2 ^ e) e) bs)
     by rest true c = (record { low = low; high = omega (arith, sum); aligned = a; clear = clear_by (block_at p e) bs c }, before)
     by rest false c = rest (λ q r. higher c q r (leb q p) refl)
 

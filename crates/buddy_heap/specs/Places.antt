@@ -1,5 +1,5 @@
 -- Places for blocks in the heap.
-use Rattle.std.specs.Prelude.{◌≡◌, ◌==◌, ℕ, zero, suc, ◌+◌, ◌-◌, ◌%◌, ◌^◌, ◌≤◌, Bool, true, ◌&&◌, ◌||◌, List, [], ◌∷◌, Option, Some, None, nat_le, nat_lt, if◌then◌else◌}
+use Rattle.std.specs.Prelude.{◌≡◌, ◌==◌, ℕ, zero, suc, ◌+◌, ◌-◌, ◌%◌, ◌^◌, ◌≤◌, Bool, true, false, ◌&&◌, ◌||◌, List, [], ◌∷◌, Option, Some, None, nat_le, nat_lt, if◌then◌else◌}
 use Rattle.std.specs.declared.result.Result.{Result}
 use Rattle.std.specs.declared.result.Result.TheVariants.{Ok, Err}
 use Rattle.size_table.specs.declared.memory_map.TheConstants.{HEAP_START, MEMORY_END}
@@ -24,10 +24,15 @@ abbrev pub is_clear : Block → List Block → Bool
 is_clear block [] = true
 is_clear block (b ∷ bs) = (nat_le (end_of block) b.base || nat_le (end_of b) block.base) && is_clear block bs
 
+-- a place that is clear, or else what is found further on
+abbrev pub place_or : (clear : Bool) → (p : ℕ) → (further : List Block → Option ℕ) → List Block → Option ℕ
+place_or true p further blocks = Some p
+place_or false p further blocks = further blocks
+
 -- the first of so many places, each a block further on, that is clear
 unfoldable pub first_of : (places p e : ℕ) → List Block → Option ℕ
 first_of zero p e blocks = None
-first_of (suc places) p e blocks = if is_clear (block_at p e) blocks then Some p else first_of places (p + 2 ^ e) e blocks
+first_of (suc places) p e blocks = place_or (is_clear (block_at p e) blocks) p (first_of places (p + 2 ^ e) e) blocks
 
 -- where a block of 2 ^ e bytes comes, beside the blocks that are live
 unfoldable pub place_of : List Block → ℕ → Option ℕ
@@ -62,6 +67,11 @@ blocks_of (p ∷ ps) = block_at p.0 p.1 ∷ blocks_of ps
 abbrev pub AreBlocks : List (ℕ × ℕ) → Type 0
 AreBlocks [] = Unit {0}
 AreBlocks (p ∷ ps) = IsBlock 4 (block_at p.0 p.1) × AreBlocks ps
+
+-- none of them has more than 16 MiB
+abbrev pub HaveExponents : List (ℕ × ℕ) → Type 0
+HaveExponents [] = Unit {0}
+HaveExponents (p ∷ ps) = (p.1 ≤ 24) × HaveExponents ps
 
 -- by their bases, from an address on up to the end of the heap
 abbrev pub LieInOrder : ℕ → List (ℕ × ℕ) → Type 0

@@ -2,7 +2,7 @@
 ghost use Rattle.std.specs.Prelude.{◌≡◌, ◌+◌, ◌-◌, ◌*◌, ◌/◌, ◌^◌, ◌<◌, ◌≤◌, [], length, vec_len, vec_capacity, IfOk, IfNone, IfSome, IfErr};
 ghost use Rattle.std.specs.List.{insert};
 ghost use Rattle.size_table.specs.Blocks.{IsBlock, block_at};
-ghost use Rattle.buddy_heap.specs.Places.{place_of, is_clear, with_block, blocks_of, AreBlocks, count_to, index_of, IsGiven};
+ghost use Rattle.buddy_heap.specs.Places.{place_of, is_clear, with_block, blocks_of, HaveExponents, count_to, index_of, IsGiven};
 
 use size_table::memory_map::{HEAP_START, MEMORY_END};
 use std::alloc::{AllocError, Global};
@@ -85,13 +85,13 @@ impl Heap {
 fn is_clear(base: u32, e: u8, mut list: &[(u32, u8)]) -> bool
     requires most { e ≤ 24 }
     requires within { base + 2 ^ e ≤ MEMORY_END }
-    requires blocks { AreBlocks list.now }
+    requires exponents { HaveExponents list.now }
     ensures { result ≡ is_clear (block_at base e) (blocks_of list.entry.now) }
 {
     let end = base + (1 << e);
     while let [first, rest @ ..] = list {
         let (other, exponent) = *first;
-        if !(end <= other || other + (1 << exponent) <= base) {
+        if !(end <= other || u64::from(other) + (1 << exponent) <= u64::from(base)) {
             return false;
         }
         list = rest;
@@ -99,11 +99,12 @@ fn is_clear(base: u32, e: u8, mut list: &[(u32, u8)]) -> bool
     true
 }
 
-// The least multiple of 2^e in the heap whose 2^e bytes meet no listed block.
-fn place_in(list: &[(u32, u8)], e: u8) -> Option<u32>
+/// The least multiple of 2^e in the heap whose 2^e bytes meet none of the listed blocks, each a base with an exponent of at
+/// most 24; `None` where there is none.
+pub fn place_in(list: &[(u32, u8)], e: u8) -> Option<u32>
     requires least { 4 ≤ e }
     requires most { e ≤ 24 }
-    requires blocks { AreBlocks list.now }
+    requires exponents { HaveExponents list.now }
     ensures { result ≡ place_of (blocks_of list.now) e }
 {
     let size = 1u32 << e;

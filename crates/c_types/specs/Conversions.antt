@@ -1,6 +1,5 @@
 -- The conversions that the language makes by itself (C11 6.3), and what a type lets be done.
-use Rattle.std.specs.Prelude.{◌≡◌, ℕ, Bool, true, false, ◌&&◌, ◌||◌, not, if◌then◌else◌, Option, Some, None, Ok, Err, List}
-use Rattle.c_words.specs.declared.place.At.{At}
+use Rattle.std.specs.Prelude.{ℕ, Bool, true, false, ◌&&◌, ◌||◌, if◌then◌else◌, Ok, Err, List}
 use Rattle.c_typed.specs.declared.typed_expr.Conversion.{Conversion}
 use Rattle.c_typed.specs.declared.typed_expr.Conversion.TheVariants.{ArrayToPointer, NumberToNumber, NullToPointer, PointerToPointer}
 use Rattle.c_types.specs.declared.error.TypeError.TheVariants.{BadType}
@@ -65,3 +64,13 @@ points_to_complete structs CType.Int = false
 points_to_complete structs CType.Unsigned = false
 points_to_complete structs (CType.Struct k) = false
 points_to_complete structs (CType.Array t n) = false
+
+-- whether a type is void
+abbrev pub is_void : CType → Bool
+is_void CType.Void = true
+is_void CType.Char = false
+is_void CType.Int = false
+is_void CType.Unsigned = false
+is_void (CType.Struct k) = false
+is_void (CType.Pointer t) = false
+is_void (CType.Array t n) = false

@@ -1,5 +1,5 @@
 -- What a step of typing gives: a value, or the refusal that comes first.
-use Rattle.std.specs.Prelude.{◌≡◌, ℕ, Result, Ok, Err, Bool, cond}
+use Rattle.std.specs.Prelude.{◌≡◌, Result, Ok, Err, Bool, cond}
 use Rattle.c_types.specs.declared.error.TypeError.{TypeError}
 use Rattle.c_types.specs.declared.error.TypeError.TheVariants.{Unknown, Twice, BadType, NoMain, TooLarge, TooManyParams, TooManyFunctions, Memory}
 

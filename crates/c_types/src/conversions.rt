@@ -6,13 +6,18 @@ ghost use Rattle.c_typed.specs.TypedViews.{expr_of};
 ghost use Rattle.c_types.specs.Rule.{Gives};
 ghost use Rattle.c_types.specs.Conversions as spec;
 
+use crate::error::TypeError;
 use c_typed::typed_expr::{Conversion, TypedExpr};
 use c_typed::types::Ty;
-use crate::error::TypeError;
 use std::alloc::{AllocError, Global};
 
 /// The operand, converted to the type.
-pub fn converted(alloc: Global, conversion: Conversion, ty: Ty, e: TypedExpr) -> Result<TypedExpr, AllocError>
+pub fn converted(
+    alloc: Global,
+    conversion: Conversion,
+    ty: Ty,
+    e: TypedExpr,
+) -> Result<TypedExpr, AllocError>
     ensures { IfOk result (λ r. expr_of r ≡ spec.converted conversion (ty_of ty) (expr_of e)) }
 {
     TypedExpr::convert(alloc, e.at, ty, conversion, e)
@@ -87,7 +92,8 @@ pub fn is_void_pointer(ty: &Ty) -> bool
     match ty {
         Ty::Pointer(to) => match &**to {
             Ty::Void => true,
-            Ty::Char | Ty::Int | Ty::Unsigned | Ty::Struct(_) | Ty::Pointer(_) | Ty::Array(_, _) => false,
+            Ty::Char | Ty::Int | Ty::Unsigned | Ty::Struct(_) | Ty::Pointer(_) | Ty::Array(_, _) =>
+                false,
         },
         Ty::Void | Ty::Char | Ty::Int | Ty::Unsigned | Ty::Struct(_) | Ty::Array(_, _) => false,
     }
@@ -104,7 +110,8 @@ pub fn common(a: &Ty, b: &Ty) -> Ty
     }
 }
 
-fn is_unsigned(ty: &Ty) -> bool
+/// Whether the type is `unsigned int`.
+pub fn is_unsigned(ty: &Ty) -> bool
     ensures { result ≡ types.is_unsigned (ty_of ty.now) }
 {
     match ty {
@@ -135,4 +142,42 @@ fn may_point(ty: &Ty, e: &TypedExpr) -> bool
     e.ty.is_same(ty)
         || e.is_null()
         || (e.ty.is_pointer() && (is_void_pointer(ty) || is_void_pointer(&e.ty)))
+}
+
+/// Whether the type is that of numbers or of pointers.
+pub fn is_scalar(ty: &Ty) -> bool
+    ensures { result ≡ types.is_scalar (ty_of ty.now) }
+{
+    ty.is_number() || ty.is_pointer()
+}
+
+/// Whether the type is `void`.
+pub fn is_void(ty: &Ty) -> bool
+    ensures { result ≡ spec.is_void (ty_of ty.now) }
+{
+    match ty {
+        Ty::Void => true,
+        Ty::Char | Ty::Int | Ty::Unsigned | Ty::Struct(_) | Ty::Pointer(_) | Ty::Array(_, _) =>
+            false,
+    }
+}
+
+/// Whether the type is that of an array.
+pub fn is_array(ty: &Ty) -> bool
+    ensures { result ≡ types.is_array (ty_of ty.now) }
+{
+    match ty {
+        Ty::Array(_, _) => true,
+        Ty::Void | Ty::Char | Ty::Int | Ty::Unsigned | Ty::Struct(_) | Ty::Pointer(_) => false,
+    }
+}
+
+/// Whether the type is that of a struct.
+pub fn is_struct(ty: &Ty) -> bool
+    ensures { result ≡ types.is_struct (ty_of ty.now) }
+{
+    match ty {
+        Ty::Struct(_) => true,
+        Ty::Void | Ty::Char | Ty::Int | Ty::Unsigned | Ty::Pointer(_) | Ty::Array(_, _) => false,
+    }
 }

@@ -1,28 +1,16 @@
 -- The accounts of flat code: which blocks live, where new ones are made, and frames of calls.
-use Rattle.std.specs.Prelude.{◌==◌, ℕ, zero, suc, ◌+◌, ◌-◌, ◌*◌, ◌/◌, ◌^◌, ◌||◌, ◌&&◌, Bool, true, false, List, [], ◌∷◌, ◌++◌, reverse, Option, Some, None, nat_le, nat_lt, if◌then◌else◌}
+use Rattle.std.specs.Prelude.{◌==◌, ℕ, ◌+◌, ◌-◌, ◌*◌, ◌/◌, ◌^◌, List, [], ◌∷◌, ◌++◌, reverse, Option, Some, None, nat_le, nat_lt, if◌then◌else◌}
 use Rattle.bb_words.specs.Answers.{Answer}
 use Rattle.bb_words.specs.declared.kinds.ReportKind.TheVariants as report
-use Rattle.size_table.specs.Blocks.{Block, block_at, end_of}
+use Rattle.size_table.specs.declared.memory_map.TheConstants.{HEAP_START, MOST_BYTES}
+use Rattle.size_table.specs.Blocks.{Block, block_at, without}
+use Rattle.size_table.specs.Made.{blocks_from}
 use Rattle.size_table.specs.Pads.{exponent_of}
+use Rattle.buddy_heap.specs.Places.{place_of, block_from}
 use Rattle.flat_code.specs.Told.{Tell}
 use Rattle.flat_code.specs.World.{zeroed, FWorld, FPoint, point, put, tell, choose, Ending, Run, Way}
 
 -- ---- Blocks
-
--- the blocks without the one that begins there
-abbrev pub without : ℕ → List Block → List Block
-without at [] = []
-without at (b ∷ bs) = if b.base == at then bs else b ∷ without at bs
-
--- the block that begins there
-abbrev pub block_from : ℕ → List Block → Option Block
-block_from at [] = None
-block_from at (b ∷ bs) = if b.base == at then Some b else block_from at bs
-
--- blocks of these exponents, without gaps from an address on
-abbrev pub blocks_from : (base : ℕ) → List ℕ → List Block
-blocks_from base [] = []
-blocks_from base (e ∷ es) = block_at base e ∷ blocks_from (base + 2 ^ e) es
 
 -- A block is made: its bytes are zero, and it lives.
 abbrev pub make : Block → FWorld → FWorld
@@ -57,14 +45,6 @@ alignment g (e ∷ es) = e
 abbrev pub stack_under : (g stack : ℕ) → List ℕ → ℕ
 stack_under g stack es = (stack - frame_size es) / 2 ^ alignment g es * 2 ^ alignment g es
 
--- the least address of the data stack
-abbrev pub stack_limit : ℕ
-stack_limit = 0xC00000
-
--- how many calls may be live
-abbrev pub most_calls : ℕ
-most_calls = 4096
-
 -- a call is entered: its blocks are made in order
 abbrev pub enter : (base : ℕ) → List ℕ → FWorld → FWorld
 enter base es w = make_all (blocks_from base es) (record w { depth = w.depth + 1; stack = base })
@@ -75,21 +55,6 @@ leave es caller w = record (end_all (reverse (blocks_from w.stack es)) w) { dept
 
 -- ---- The heap
 
--- a block meets none of these
-abbrev pub is_clear : Block → List Block → Bool
-is_clear block [] = true
-is_clear block (b ∷ bs) = (nat_le (end_of block) b.base || nat_le (end_of b) block.base) && is_clear block bs
-
--- the first of n places, one after another from `at` on, at which a block of 2 ^ e bytes meets none of the blocks
-abbrev pub first_of : (n at e : ℕ) → List Block → Option ℕ
-first_of zero at e blocks = None
-first_of (suc n) at e blocks = if is_clear (block_at at e) blocks then Some at else first_of n (at + 2 ^ e) e blocks
-
--- where a block of 2 ^ e bytes is made: the least multiple of its size in the heap, the 16 MiB from 0x1000000 on, at which
--- it meets no block
-unfoldable pub place_of : List Block → (e : ℕ) → Option ℕ
-place_of blocks e = first_of (2 ^ (24 - e)) 0x1000000 e blocks
-
 -- malloc, at a place (C11 7.22.3.4): a value becomes the address of a new block, or 0 where there is no place
 abbrev pub allot : (to e : ℕ) → Option ℕ → FPoint → FPoint
 allot to e None u = put to 0 u
@@ -98,12 +63,12 @@ allot to e (Some at) u = put to at (point u.words (make (block_at at e) u.world)
 -- malloc of so many bytes; more than 16 MiB are never there
 abbrev pub malloc : (g to size : ℕ) → FPoint → FPoint
 malloc g to size u =
-    choose (nat_lt 0x1000000 size) (λ t. put to 0 t)
+    choose (nat_lt MOST_BYTES size) (λ t. put to 0 t)
     (λ t. allot to (exponent_of g size) (place_of t.world.live (exponent_of g size)) t) u
 
 -- a block that begins at the address, if it is one of the heap
 abbrev pub heap_block : (at : ℕ) → List Block → Option Block
-heap_block at blocks = if nat_le 0x1000000 at then block_from at blocks else None
+heap_block at blocks = if nat_le HEAP_START at then block_from at blocks else None
 
 abbrev pub give_back : (line : ℕ) → Option Block → FPoint → Run Way
 give_back line None u = Answer.Ends (Ending.Reported report.BadFree line) u

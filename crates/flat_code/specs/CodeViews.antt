@@ -1,5 +1,5 @@
 -- What the code of the program stands for: one view for each type, to the type of its name in `Code`.
-use Rattle.std.specs.Prelude.{List, [], ◌∷◌, map}
+use Rattle.std.specs.Prelude.{List, map}
 use Rattle.flat_code.specs.declared.code.FlatStep.{FlatStep, fold-FlatStep}
 use Rattle.flat_code.specs.declared.code.FlatStep.TheOpen.{FlatStep-F}
 use Rattle.flat_code.specs.declared.code.FlatFunction.{FlatFunction}

@@ -6,13 +6,15 @@ use Rattle.bb_words.specs.Numbers.{all_ones}
 use Rattle.bb_words.specs.Steps.{arith, size_of_width}
 use Rattle.bb_words.specs.declared.kinds.ReportKind.TheVariants as report
 use Rattle.bb_words.specs.declared.kinds.TrapKind.TheVariants as trap
+use Rattle.bb_words.specs.declared.steps.Width.{Width}
 use Rattle.marked_ptr.specs.Marked.{owner_slot}
+use Rattle.size_table.specs.declared.memory_map.TheConstants.{TEXT_START, TABLE_START, GLOBALS_START, STACK_START, HEAP_START, MEMORY_END, MOST_CALLS}
 use Rattle.size_table.specs.Blocks.{Block}
 use Rattle.size_table.specs.Table.{byte_of}
 use Rattle.flat_code.specs.Code.{FStep, FSteps, FFunction, FCode}
 use Rattle.flat_code.specs.Told.{Tell}
-use Rattle.flat_code.specs.World.{Memory, with_bytes, bytes_of, read, arguments, FWorld, FPoint, point, put, spend, tell, choose, Ending, Run, Way, onward, out_of, again}
-use Rattle.flat_code.specs.Accounts.{stack_under, stack_limit, most_calls, enter, leave, malloc, free}
+use Rattle.flat_code.specs.World.{Memory, with_bytes, bytes_of, read, arguments, FPoint, point, put, spend, tell, choose, Ending, Run, Way, onward, out_of, again}
+use Rattle.flat_code.specs.Accounts.{stack_under, enter, leave, malloc, free}
 use Rattle.flat_code.specs.Time.{charge, turn_charge, call_charge, start_charge}
 
 abbrev pub goes : FPoint → Run Way
@@ -33,15 +35,33 @@ slot_word g word = slot_or_ones (owner_slot g word)
 
 -- ---- Accesses
 
--- An access goes on if its address is neither in the null page, marked, past the memory's end, in the text, nor no
+-- How an access ends the run, if it does: in the null page, by a marked word, past the memory's end, in the text, or at no
 -- multiple of its size, in this order. Past the end and in the text it has no meaning.
+abbrev pub refusal : (at size : ℕ) → Option Ending
+refusal at size =
+    if nat_lt at TEXT_START then Some (Ending.Trapped trap.Null)
+    else if nat_le (2 ^ 31) at then Some (Ending.Trapped trap.Marked)
+    else if nat_le MEMORY_END at then Some Ending.Cut
+    else if nat_lt at TABLE_START then Some Ending.Cut
+    else if at % size == 0 then None
+    else Some (Ending.Trapped trap.Misaligned)
+
+abbrev pub unless_refused : Option Ending → (FPoint → Run Way) → FPoint → Run Way
+unless_refused None go u = go u
+unless_refused (Some ending) go u = ends ending u
+
 abbrev pub access : (at size : ℕ) → (FPoint → Run Way) → FPoint → Run Way
-access at size go =
-    choose (nat_lt at 0x1000) (ends (Ending.Trapped trap.Null))
-    (choose (nat_le (2 ^ 31) at) (ends (Ending.Trapped trap.Marked))
-    (choose (nat_le 0x2000000 at) (ends Ending.Cut)
-    (choose (nat_lt at 0x200000) (ends Ending.Cut)
-    (choose (at % size == 0) go (ends (Ending.Trapped trap.Misaligned))))))
+access at size go u = unless_refused (refusal at size) go u
+
+-- a value becomes what stands at an address
+abbrev pub loaded : (to address : ℕ) → Width → FPoint → FPoint
+loaded to address width u = put to (read width u.world.memory address) (point u.words (tell (Tell.Access address (size_of_width width) false) u.world))
+
+-- a word is written to an address, or as much of it as the width has
+abbrev pub stored : (address word : ℕ) → Width → FPoint → FPoint
+stored address word width u =
+    let bytes = bytes_of (size_of_width width) word in
+    point u.words (tell (Tell.Access address (size_of_width width) true) (record u.world { memory = with_bytes u.world.memory address bytes }))
 
 -- ---- The environment
 
@@ -97,13 +117,8 @@ module _ (g : ℕ) (call : Calls) (m frame : ℕ) where
         choose (nat_lt (u.words slot) (2 ^ (25 - g))) (λ t. goes (put to (byte_of g t.world.live (t.words slot)) t)) (ends Ending.Cut) u
     act (FStep.FrameAt to offset) u =
         choose (nat_lt offset frame) (λ t. goes (put to (t.world.stack + offset) t)) (ends Ending.Cut) u
-    act (FStep.Load to at width) u =
-        access (u.words at) (size_of_width width)
-        (λ t. goes (put to (read width t.world.memory (t.words at)) (point t.words (tell (Tell.Access (t.words at) (size_of_width width) false) t.world)))) u
-    act (FStep.Store at from width) u =
-        access (u.words at) (size_of_width width)
-        (λ t. goes (point t.words (tell (Tell.Access (t.words at) (size_of_width width) true)
-        (record t.world { memory = with_bytes t.world.memory (t.words at) (bytes_of (size_of_width width) (t.words from)) })))) u
+    act (FStep.Load to at width) u = access (u.words at) (size_of_width width) (λ t. goes (loaded to (u.words at) width t)) u
+    act (FStep.Store at from width) u = access (u.words at) (size_of_width width) (λ t. goes (stored (u.words at) (u.words from) width t)) u
     act (FStep.Checked from to) u = goes (point u.words (tell (Tell.Move (u.words from) (u.words to)) u.world))
     act (FStep.LineMark line) u = goes (point u.words (tell (Tell.Line line) u.world))
     act (FStep.Report kind line) u = ends (Ending.Reported kind (u.words line)) u
@@ -131,7 +146,7 @@ body_with body args u =
 -- a call with its frame, where it fits on the data stack
 abbrev pub framed : (g line : ℕ) → (body : FPoint → Run Way) → (args : List ℕ) → (frame : List ℕ) → FPoint → Run ℕ
 framed g line body args es u =
-    choose (nat_lt (stack_under g u.world.stack es) stack_limit) (ends (Ending.Reported report.Stack line))
+    choose (nat_lt (stack_under g u.world.stack es) STACK_START) (ends (Ending.Reported report.Stack line))
     (λ t. and_then (body_with body args (point t.words (enter (stack_under g t.world.stack es) es t.world)))
     (λ word s. Answer.Goes word (point s.words (leave es t.world s.world)))) u
 
@@ -141,7 +156,7 @@ framed_if g line body args (Some es) u = framed g line body args es u
 
 -- a call, unless too many are live
 abbrev pub counted : (line : ℕ) → (FPoint → Run ℕ) → FPoint → Run ℕ
-counted line go u = choose (nat_le most_calls u.world.depth) (ends (Ending.Reported report.Depth line)) go u
+counted line go u = choose (nat_le MOST_CALLS u.world.depth) (ends (Ending.Reported report.Depth line)) go u
 
 -- no function is called
 abbrev pub no_calls : Calls
@@ -174,15 +189,15 @@ module _ (g : ℕ) (frames : List (List ℕ)) (m : ℕ) where
 
 -- ---- Programs
 
--- the memory at the start: the code's bytes from 0xA00000 on, and zero elsewhere
+-- the memory at the start: the code's bytes from the start of the globals on, and zero elsewhere
 abbrev pub start_memory : List ℕ → Memory
-start_memory initial at = if nat_lt at 0xA00000 then 0 else slice_index initial (at - 0xA00000)
+start_memory initial at = if nat_lt at GLOBALS_START then 0 else slice_index initial (at - GLOBALS_START)
 
 -- the world before the first step: the blocks of the global objects live, no call is entered, and the stack number is the
 -- upper end of the data stack
 abbrev pub start : (initial : List ℕ) → (globals : List Block) → (input : List ℕ) → FPoint
 start initial globals input =
-    point (arguments []) (record { memory = start_memory initial; live = globals; depth = 0; stack = 0x1000000; input = input; told = []; time = start_charge })
+    point (arguments []) (record { memory = start_memory initial; live = globals; depth = 0; stack = HEAP_START; input = input; told = []; time = start_charge })
 
 abbrev pub exited : (word : ℕ) → FPoint → Run (Unit {0})
 exited word u = ends (Ending.Exited word) u

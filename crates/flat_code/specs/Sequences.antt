@@ -1,19 +1,22 @@
 -- The three sequences of steps that check pointers: a move, a load of a pointer, and the span of a range. Code that keeps
 -- the discipline looks into the size table in these alone. Each has, beside the values that it is about, temporaries of
 -- its own, which nothing reads afterwards.
-use Rattle.std.specs.Prelude.{◌≡◌, ◌≢◌, ℕ, ◌-◌, ◌^◌, ◌≤◌, List, [], ◌∷◌}
+use Rattle.std.specs.Prelude.{◌≡◌, ◌≢◌, ◌==◌, ℕ, ◌-◌, ◌^◌, ◌≤◌, ◌&&◌, ◌||◌, not, Bool, true, false, List, [], ◌∷◌, Option, Some, None, nat_lt}
 use Rattle.bb_words.specs.Answers.{Answer}
 use Rattle.bb_words.specs.declared.kinds.ReportKind.{ReportKind}
 use Rattle.bb_words.specs.declared.kinds.ReportKind.TheVariants.{Bounds, Pointer}
 use Rattle.bb_words.specs.declared.steps.ArithOp.TheVariants as op
 use Rattle.bb_words.specs.declared.steps.Width.TheVariants as width
-use Rattle.marked_ptr.specs.Marked.{half_slot}
+use Rattle.marked_ptr.specs.Marked.{half_slot, owner_slot}
+use Rattle.size_table.specs.Blocks.{Block}
+use Rattle.size_table.specs.Table.{byte_of}
 use Rattle.marked_ptr.specs.declared.answer.MoveAnswer.{MoveAnswer}
 use Rattle.marked_ptr.specs.declared.answer.MoveAnswer.TheVariants as answer
 use Rattle.flat_code.specs.Code.{FSteps, none, ◌+++◌, steps}
 use Rattle.flat_code.specs.Code.FStep.{Number, Arith, If, Slot, Look, Load, Checked, Report}
 use Rattle.flat_code.specs.Told.{Tell}
-use Rattle.flat_code.specs.World.{Words, FPoint, point, spend, tell, Ending, Run, Way}
+use Rattle.flat_code.specs.World.{Words, read, FWorld, FPoint, point, spend, tell, Ending, Run, Way}
+use Rattle.flat_code.specs.Run.{refusal}
 
 -- a report, with the line in a value
 abbrev pub report : ReportKind → (line : ℕ) → FSteps
@@ -137,3 +140,90 @@ abbrev pub DoesMove : (limit : ℕ) → MoveAnswer → (p q line s e : ℕ) → 
 DoesMove limit (answer.Inside word) p q line s e u r = WentOn limit p q s e word.0 u r
 DoesMove limit (answer.Marked word) p q line s e u r = WentOn limit p q s e word.0 u r
 DoesMove limit answer.Report p q line s e u r = WasReported limit line Bounds u r
+
+-- how many instructions a load of a pointer takes at most, after the access
+abbrev pub load_time : ℕ
+load_time = 46
+
+-- The word is null, or the slot that owns it is one of memory's and lies in a block.
+abbrev pub is_held : (g : ℕ) → List Block → Option ℕ → Bool
+is_held g blocks None = false
+is_held g blocks (Some slot) = nat_lt slot (2 ^ (25 - g)) && not (byte_of g blocks slot == 0)
+
+abbrev pub may_be_loaded : (g : ℕ) → List Block → (word : ℕ) → Bool
+may_be_loaded g blocks word = (word == 0) || is_held g blocks (owner_slot g word)
+
+-- after an access to so many bytes, which took 3 instructions
+abbrev pub accessed : (at size : ℕ) → FWorld → FWorld
+accessed at size w = tell (Tell.Access at size false) (spend 3 w)
+
+-- The word was loaded into w, within so much time.
+pub record WasLoaded (limit w at s e : ℕ) (u : FPoint) (r : Run Way) : Type 0 where
+  pub words : Words
+  pub took : ℕ
+  pub within : took ≤ limit
+  pub is : r ≡ Answer.Goes Way.On (point words (spend took (accessed (u.words at) 4 u.world)))
+  pub value : words w ≡ read width.Pointer u.world.memory (u.words at)
+  pub kept : KeptBut w s e u.words words
+
+-- The access was made, and then the run ended by a report.
+pub record WasRefused (limit at line : ℕ) (u : FPoint) (r : Run Way) : Type 0 where
+  pub words : Words
+  pub took : ℕ
+  pub within : took ≤ limit
+  pub is : r ≡ Answer.Ends (Ending.Reported Pointer (u.words line)) (point words (spend took (accessed (u.words at) 4 u.world)))
+
+abbrev pub DoesLoad : (accepted : Bool) → (w at line s e : ℕ) → FPoint → Run Way → Type 0
+DoesLoad true w at line s e u r = WasLoaded load_time w at s e u r
+DoesLoad false w at line s e u r = WasRefused load_time at line u r
+
+-- ---- What a span does
+
+-- how many instructions the part of a span that is tested before any byte is touched takes
+abbrev pub span_begin : ℕ
+span_begin = 20
+
+-- and how many come between the touch of the first byte and that of the last, at most
+abbrev pub span_time : ℕ
+span_time = 136
+
+-- no value but these four has changed
+abbrev pub SpanKept : (q d s e : ℕ) → (old new : Words) → Type 0
+SpanKept q d s e old new = (v : ℕ) → v ≢ q → v ≢ d → v ≢ s → v ≢ e → new v ≡ old v
+
+-- the world after the first byte was touched
+abbrev pub first_touched : (p : ℕ) → FPoint → FWorld
+first_touched p u = accessed (u.words p) 1 (spend span_begin u.world)
+
+-- Both bytes were touched, and the pointer was moved from the one to the other.
+pub record SpanWent (p q d s e word : ℕ) (u : FPoint) (r : Run Way) : Type 0 where
+  pub words : Words
+  pub took : ℕ
+  pub within : took ≤ span_time
+  pub is : r ≡ Answer.Goes Way.On (point words (accessed word 1 (tell (Tell.Move (u.words p) word) (spend took (first_touched p u)))))
+  pub value : words q ≡ word
+  pub kept : SpanKept q d s e u.words words
+
+-- The pointer was moved, and the access to the last byte ended the run.
+pub record SpanStopped (ending : Ending) (p word : ℕ) (u : FPoint) (r : Run Way) : Type 0 where
+  pub words : Words
+  pub took : ℕ
+  pub within : took ≤ span_time
+  pub is : r ≡ Answer.Ends ending (point words (spend 3 (tell (Tell.Move (u.words p) word) (spend took (first_touched p u)))))
+
+-- The first byte was touched, and the move was reported.
+pub record SpanReported (p line : ℕ) (u : FPoint) (r : Run Way) : Type 0 where
+  pub words : Words
+  pub took : ℕ
+  pub within : took ≤ span_time
+  pub is : r ≡ Answer.Ends (Ending.Reported Bounds (u.words line)) (point words (spend took (first_touched p u)))
+
+abbrev pub LastTouched : Option Ending → (p q d s e word : ℕ) → FPoint → Run Way → Type 0
+LastTouched None p q d s e word u r = SpanWent p q d s e word u r
+LastTouched (Some ending) p q d s e word u r = SpanStopped ending p word u r
+
+-- the run does what the answer of the move from the first byte to the last says
+abbrev pub DoesSpan : MoveAnswer → (p q line d s e : ℕ) → FPoint → Run Way → Type 0
+DoesSpan (answer.Inside word) p q line d s e u r = LastTouched (refusal word.0 1) p q d s e word.0 u r
+DoesSpan (answer.Marked word) p q line d s e u r = LastTouched (refusal word.0 1) p q d s e word.0 u r
+DoesSpan answer.Report p q line d s e u r = SpanReported p line u r

@@ -6,3 +6,4 @@
 #![tactic(auto)]
 
 pub mod code;
+pub mod laws;

@@ -7,3 +7,5 @@ pub mod Formed
 pub mod Safe
 pub mod Weight
 pub mod Views
+pub mod Laws
+pub mod Examples

@@ -2,13 +2,14 @@
 use Rattle.std.specs.Prelude.{ℕ, zero, suc, nat_le, if◌then◌else◌, List, [], length, Option, Some, None, slice_get, slice_index_or}
 use Rattle.bb_words.specs.Answers.{Goes, Ends, and_then}
 use Rattle.bb_words.specs.declared.kinds.ReportKind.TheVariants.{Depth}
+use Rattle.size_table.specs.declared.memory_map.TheConstants.{MOST_CALLS}
 use Rattle.block_layout.specs.Layout.{layout}
 use Rattle.block_layout.specs.Objects.{items_of}
 use Rattle.source_meaning.specs.declared.values.Value.{Value}
 use Rattle.source_meaning.specs.declared.values.Value.TheVariants.{Num}
 use Rattle.source_meaning.specs.declared.values.Ending.TheVariants.{Exited, Reported, Cut}
 use Rattle.source_meaning.specs.Worlds.{with_number}
-use Rattle.source_meaning.specs.Accounts.{most_calls, enter, leave}
+use Rattle.source_meaning.specs.Accounts.{enter, leave}
 use Rattle.source_meaning.specs.Start.{start_world}
 use Rattle.mid_code.specs.Code.{Function, Program}
 use Rattle.mid_code.specs.Times.{call_charge}
@@ -49,7 +50,7 @@ call_if_any g (Some f) body xs v = call_function g f (body f v) xs v
 abbrev pub call_past : Option Function → Point → Goings Value
 call_past None v = Ends (Came Cut) v
 call_past (Some f) v =
-    if nat_le most_calls v.world.depth then Ends (Came (Reported Depth f.line)) (spend (call_charge f) v) else Ends (Came Cut) v
+    if nat_le MOST_CALLS v.world.depth then Ends (Came (Reported Depth f.line)) (spend (call_charge f) v) else Ends (Came Cut) v
 
 -- the calls of which at most n are nested, where each run of a Loop has at most m turns
 abbrev pub calls : (g : ℕ) → Watch → Program → (m n : ℕ) → Calls

@@ -47,7 +47,7 @@ turn_charge = 16
 
 -- a call is entered: its values are zeroed, and its frame is made
 abbrev pub call_charge : Function → ℕ
-call_charge f = 256 + 2 * f.values
+call_charge f = 128 + 3 * f.values
 
 abbrev pub byte_charge : ℕ
 byte_charge = 64

@@ -3,11 +3,10 @@ use Rattle.std.proofs.Common.{◌≡◌, ◌+◌, ◌≤◌, List, [], ◌∷◌
 use Rattle.std.specs.Prelude.{map, reverse}
 use Rattle.std.proofs.lemmas.List.{map-append, reverse-append}
 use Rattle.rv_machine.specs.Environment.{ended_event}
-use Rattle.rv_machine.specs.Formed.{count_in}
 use Rattle.bb_watch.specs.Live.{live_of}
 use Rattle.rv_machine.proofs.LiveLists.{live_append}
 use Rattle.rv_machine.proofs.SameBlocks.{one_self, count_without, without_disjoint}
-use Rattle.size_table.specs.Blocks.{Block, AreDisjoint, without}
+use Rattle.size_table.specs.Blocks.{Block, AreDisjoint, without, count_in}
 
 -- each of the blocks stands among the others, as often as among them
 abbrev pub AreAmong : List Block → List Block → Type 0

@@ -160,12 +160,14 @@ unfolding start
 quiet_safe below image w h initial q =
     let globals = global_blocks image in
     let none = sym q.told in record {
-      moves = subst (λ (l : List Tell). Each (IsMoveSafe 4) globals globals (events_of l)) none tt;
-      accesses = subst (λ (l : List Tell). Each (IsAccessSafe 4) globals globals (events_of l)) none tt;
-      control = subst (λ (l : List Tell). Each IsControlSafe globals globals (events_of l)) none tt;
-      table = subst (λ (l : List Tell). IsTableOf 4 (live_of globals (events_of l)) (table_in w.machine.core.memory)) none
-          (subst (λ (m : List ℕ). IsTableOf 4 globals (table_in m)) (sym q.memory) (start_table below image h initial));
-      returns = subst (λ (l : List Tell). IsSome (open_after [] (events_of l))) none refl;
+      contained = record {
+        moves = subst (λ (l : List Tell). Each (IsMoveSafe 4) globals globals (events_of l)) none tt;
+        accesses = subst (λ (l : List Tell). Each (IsAccessSafe 4) globals globals (events_of l)) none tt;
+        control = subst (λ (l : List Tell). Each IsControlSafe globals globals (events_of l)) none tt;
+        table = subst (λ (l : List Tell). IsTableOf 4 (live_of globals (events_of l)) (table_in w.machine.core.memory)) none
+            (subst (λ (m : List ℕ). IsTableOf 4 globals (table_in m)) (sym q.memory) (start_table below image h initial));
+        returns = subst (λ (l : List Tell). IsSome (open_after [] (events_of l))) none refl;
+      };
       traps = q.ending;
     }
 
@@ -392,10 +394,10 @@ clauses_refuse back below = record {
 
 pub unsafe_examples : ClausesRefuse → UnsafeExamples
 unsafe_examples refuse = record {
-  moves = λ input safe. refuse.moves.0 input (safe 1 (lit≤ tt)).moves;
-  accesses = λ input safe. refuse.accesses.0 input (safe 2 (lit≤ tt)).accesses;
-  control = λ input safe. refuse.control.0 input (safe 1 (lit≤ tt)).control;
-  table = λ input safe. refuse.table input (safe 2 (lit≤ tt)).table;
-  returns = λ input safe. refuse.returns.0 input (safe 1 (lit≤ tt)).returns;
+  moves = λ input safe. refuse.moves.0 input (safe 1 (lit≤ tt)).contained.moves;
+  accesses = λ input safe. refuse.accesses.0 input (safe 2 (lit≤ tt)).contained.accesses;
+  control = λ input safe. refuse.control.0 input (safe 1 (lit≤ tt)).contained.control;
+  table = λ input safe. refuse.table input (safe 2 (lit≤ tt)).contained.table;
+  returns = λ input safe. refuse.returns.0 input (safe 1 (lit≤ tt)).contained.returns;
   traps = λ input safe. refuse.traps.0 input (safe 1 (lit≤ tt)).traps;
 }

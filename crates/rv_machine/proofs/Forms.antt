@@ -18,7 +18,7 @@ use Rattle.rv_machine.specs.declared.stop.Halt.TheVariants.{Trapped}
 use Rattle.size_table.specs.Made.{blocks_from, all_made, all_ended, made, ended}
 use Rattle.rv_machine.specs.Environment.{World, with_machine, exits, gets, gets_from, puts, kind_of, reported, reported_if, reports, enters, enters_by, enter_events, leaves, leaves_by, leave_events, made_event, ended_event, calls, telling, new_block, block_of, new_in, blocks_if, mallocs_by, mallocs, malloc_events, Freeing, Nothing, NoBlock, Ends, freeing_if, freeing, frees_by, frees, freed_blocks, free_events}
 use Rattle.bb_watch.specs.Told.{Tell, Output, Happens, events_of}
-use Rattle.rv_machine.specs.Formed.{IsByte, IsCore, AreLaidOut, IsInRegion, IsFormed, live_in, IsInHeap, IsHeap, count_in, SameBlocks}
+use Rattle.rv_machine.specs.Formed.{IsByte, IsCore, AreLaidOut, IsInRegion, IsFormed, live_in, IsInHeap, IsHeap}
 use Rattle.size_table.specs.Pads.{exponent_of}
 use Rattle.buddy_heap.specs.Places.{IsRoom, IsPlaceOf, place_of, with_block, block_from}
 use Rattle.rv_machine.specs.Frames.{Entering, Leaving, last_entered, stack_under, IsCall, AreCalls}
@@ -38,7 +38,7 @@ use Rattle.rv_machine.proofs.HeapLaws.{HeapLaws}
 use Rattle.rv_machine.proofs.EndedLists.{AreAmong, all_ended_blocks}
 use Rattle.rv_machine.proofs.SameBlocks.{all_of, each_of, same_all, same_disjoint, count_append, count_with, count_without, without_disjoint, found_in}
 use Rattle.rv_machine.proofs.Starts.{globals_aligned}
-use Rattle.size_table.specs.Blocks.{Block, block_at, IsBlock, AreDisjoint, end_of, without}
+use Rattle.size_table.specs.Blocks.{Block, block_at, IsBlock, AreDisjoint, end_of, without, count_in, SameBlocks}
 
 -- ---- The blocks that live
 
@@ -63,7 +63,7 @@ between_heap [] h = tt
 between_heap (b ∷ bs) h = (All-head IsInHeap b bs h, between_heap bs (All-tail IsInHeap b bs h))
 
 -- the globals, blocks on the data stack, and blocks in the heap
-pub laid_out : (image : Image) → IsImage image → (low : ℕ) (bs heap : List Block) → 12582912 ≤ low → AreStacked low 16777216 bs → IsHeap heap → AreLaidOut (global_blocks image ++ (bs ++ heap))
+pub laid_out : (image : Image) → IsImage image → (low : ℕ) (bs heap : List Block) → 12582912 ≤ low → AreStacked low 16777216 bs → IsHeap 4 heap → AreLaidOut 4 (global_blocks image ++ (bs ++ heap))
 laid_out image h low bs heap high s i =
     let globals = from_between 10485760 image.globals in
     let within = between_wider 10485760 (10485760 + total_size image.globals) 10485760 12582912 (global_blocks image) (omega arith) (let fits = h.globals_fit in omega (arith, fits)) globals in
@@ -80,17 +80,17 @@ laid_out image h low bs heap high s i =
           (disjoint_up 12582912 16777216 33554432 bs heap stacked heaped s.disjoint i.disjoint);
     }
 
-pub laid_out_same : (xs ys : List Block) → SameBlocks xs ys → AreLaidOut ys → AreLaidOut xs
+pub laid_out_same : (xs ys : List Block) → SameBlocks xs ys → AreLaidOut 4 ys → AreLaidOut 4 xs
 laid_out_same xs ys s l = record { each = same_all (IsBlock 4) xs ys s l.each; regions = same_all IsInRegion xs ys s l.regions; disjoint = same_disjoint xs ys s l.disjoint }
 
-heap_same : (xs ys : List Block) → SameBlocks xs ys → IsHeap ys → IsHeap xs
+heap_same : (xs ys : List Block) → SameBlocks xs ys → IsHeap 4 ys → IsHeap 4 xs
 heap_same xs ys s h = record { each = same_all (IsBlock 4) xs ys s h.each; within = same_all IsInHeap xs ys s h.within; disjoint = same_disjoint xs ys s h.disjoint }
 
 -- how often a block stands among the globals, others and those of the heap
 pub count_parts : (b : Block) (gs xs hs : List Block) → count_in b (gs ++ (xs ++ hs)) ≡ count_in b gs + (count_in b xs + count_in b hs)
 count_parts b gs xs hs = let first = count_append b gs (xs ++ hs) in let second = count_append b xs hs in omega (arith, first, second)
 
-pub formed_laid_out : (image : Image) (w : World) → IsImage image → IsFormed image w → AreLaidOut (live_in image w)
+pub formed_laid_out : (image : Image) (w : World) → IsImage image → IsFormed image w → AreLaidOut 4 (live_in image w)
 formed_laid_out image w h f =
     let stack = w.machine.frames.stack in
     let calls = w.machine.frames.entered in
@@ -118,7 +118,7 @@ same_frames image w v h frames heap told left core = record {
   layouts = ap (λ (f : Frames). f.layouts) frames ∙ h.layouts;
   calls = subst (λ (f : Frames). AreCalls image.frames 16777216 f.entered f.stack) (sym frames) h.calls;
   few = subst (λ (f : Frames). length f.entered ≤ 4096) (sym frames) h.few;
-  heap = subst IsHeap (sym heap) h.heap;
+  heap = subst (IsHeap 4) (sym heap) h.heap;
   live = λ b.
       ap (λ (es : List Event). count_in b (live_of (global_blocks image) es)) told
       ∙ h.live b
@@ -175,7 +175,7 @@ entered_same image w calls bs s = λ b.
 pub record IsEntered (image : Image) (w : World) (k base : ℕ) (es : List ℕ) : Type 0 where
   pub call : IsCall image.frames w.machine.frames.stack base (record { frame = k; back = w.machine.frames.stack })
   pub placed : IsPlaced w.machine.frames.stack base es
-  pub laid_out : AreLaidOut (live_in image w ++ blocks_from base es)
+  pub laid_out : AreLaidOut 4 (live_in image w ++ blocks_from base es)
   pub blocks : call_blocks image.frames (w.machine.frames.entered ++ (record { frame = k; back = w.machine.frames.stack } ∷ [])) ≡ call_blocks image.frames w.machine.frames.entered ++ blocks_from base es
 
 pub is_entered : (image : Image) (w : World) (k : ℕ) (es : List ℕ) → IsImage image → IsFormed image w → slice_get w.machine.frames.layouts k ≡ Some es → 12582912 ≤ stack_under w.machine.frames.stack es → IsEntered image w k (stack_under w.machine.frames.stack es) es
@@ -328,9 +328,9 @@ leaves_formed image w h t f =
 pub record IsNew (image : Image) (w : World) (b : Block) : Type 0 where
   pub block : IsBlock 4 b
   pub within : IsInHeap b
-  pub heap : IsHeap (with_block b w.machine.heap)
+  pub heap : IsHeap 4 (with_block b w.machine.heap)
   pub same : SameBlocks (live_in image w ++ b ∷ []) (global_blocks image ++ (call_blocks image.frames w.machine.frames.entered ++ with_block b w.machine.heap))
-  pub laid_out : AreLaidOut (live_in image w ++ b ∷ [])
+  pub laid_out : AreLaidOut 4 (live_in image w ++ b ∷ [])
 
 -- there is room in the heap where a block is made
 pub new_room : HeapLaws → (size : ℕ) (heap : List Block) (b : Block) → new_block size heap ≡ Some b → (4 ≤ b.exponent) × (b.exponent ≤ 24) × IsRoom heap b.exponent b.base
@@ -357,8 +357,8 @@ is_new laws image w b h f e =
     let r = room.2 in
     let block : IsBlock 4 b = record { least = room.0; most = room.1; aligned = r.aligned; within = r.high } in
     let within : IsInHeap b = (r.low, r.high) in
-    let one : IsHeap (b ∷ s.heap) = record { each = All-cons (IsBlock 4) b s.heap block f.heap.each; within = All-cons IsInHeap b s.heap within f.heap.within; disjoint = (r.clear, f.heap.disjoint) } in
-    let heap : IsHeap (with_block b s.heap) = heap_same (with_block b s.heap) (b ∷ s.heap) (λ c. let n = count_with b c s.heap in omega (arith, n)) one in
+    let one : IsHeap 4 (b ∷ s.heap) = record { each = All-cons (IsBlock 4) b s.heap block f.heap.each; within = All-cons IsInHeap b s.heap within f.heap.within; disjoint = (r.clear, f.heap.disjoint) } in
+    let heap : IsHeap 4 (with_block b s.heap) = heap_same (with_block b s.heap) (b ∷ s.heap) (λ c. let n = count_with b c s.heap in omega (arith, n)) one in
     let stacked = calls_stacked image.frames h.frames_fit calls 16777216 s.frames.stack (omega arith) f.calls in
     let parts = laid_out image h s.frames.stack (call_blocks image.frames calls) (with_block b s.heap) (stack_high image.frames calls 16777216 s.frames.stack (lit≤ tt) f.calls) stacked heap in
     let same : SameBlocks (live_in image w ++ b ∷ []) (global_blocks image ++ (call_blocks image.frames calls ++ with_block b s.heap)) =
@@ -400,7 +400,7 @@ mallocs_formed laws image w h t f = by (new_in w.machine) refl
 -- what is known of a block of the heap that ends
 pub record IsFreed (image : Image) (w : World) (b : Block) : Type 0 where
   pub block : IsBlock 4 b
-  pub heap : IsHeap (without b.base w.machine.heap)
+  pub heap : IsHeap 4 (without b.base w.machine.heap)
   pub among : 1 ≤ count_in b (live_in image w)
   pub disjoint : AreDisjoint (live_in image w)
   pub same : SameBlocks (without b.base (live_in image w)) (global_blocks image ++ (call_blocks image.frames w.machine.frames.entered ++ without b.base w.machine.heap))

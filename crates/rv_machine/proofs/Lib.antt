@@ -18,6 +18,8 @@ pub mod BlockMemory
 pub mod TableMemory
 pub mod Starts
 pub mod Cases
+pub mod Answering
+pub mod Aligned
 pub mod Forms
 pub mod MemoryLaws
 pub mod MadeLaws

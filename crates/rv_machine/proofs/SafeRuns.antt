@@ -10,7 +10,7 @@ use Rattle.rv_image.specs.declared.image.Image.{Image}
 use Rattle.rv_image.specs.Rules.{IsImage}
 use Rattle.rv_machine.specs.declared.stop.Halt.{Halt}
 use Rattle.size_table.specs.Made.{blocks_from}
-use Rattle.rv_machine.specs.Changes.{IsOffTable, AreOffTable}
+use Rattle.rv_machine.specs.Changes.{IsOffTable, AreOffTable, IsDataHigh, AreDataHigh}
 use Rattle.rv_machine.specs.Environment.{World, enter_events, leave_events, leaving, made_event, ended_event, new_in, blocks_if, malloc_events, free_events, freed_blocks, freeing}
 use Rattle.bb_watch.specs.Told.{Tell, Happens, events_of}
 use Rattle.rv_machine.specs.Formed.{IsByte, live_in}
@@ -21,7 +21,7 @@ use Rattle.bb_watch.specs.Live.{live_after, ever_after, holder}
 use Rattle.rv_machine.specs.Live.{global_blocks}
 use Rattle.bb_watch.specs.Safety.{Each, IsMoveSafe, IsAccessSafe, IsControlSafe, LieIn, WasFreed, open_after, return_place}
 use Rattle.rv_machine.specs.Machine.{steps, machine_after}
-use Rattle.rv_machine.specs.Safety.{IsSafe, IsSafeEnding, SafeRun}
+use Rattle.rv_machine.specs.Safety.{IsContained, IsSafe, IsSafeEnding, ContainedRun, SafeRun}
 use Rattle.rv_machine.specs.Start.{start}
 use Rattle.rv_machine.specs.State.{Core, State, register_of}
 use Rattle.rv_machine.proofs.Forms.{new_room}
@@ -64,9 +64,9 @@ open_first (Line line ∷ xs) ys (place ∷ places) h = open_first xs ys (place 
 
 -- ---- Blocks that are made
 
--- the block begins above the size table
+-- the block lies among the globals or above
 IsHigh : Block → Type 0
-IsHigh b = 4194304 ≤ b.base
+IsHigh b = 10485760 ≤ b.base
 
 AreHigh : List Block → Type 0
 AreHigh [] = Unit {0}
@@ -74,7 +74,7 @@ AreHigh (b ∷ bs) = IsHigh b × AreHigh bs
 
 -- so do the blocks that the events tell to be made
 MakesHigh : Event → Type 0
-MakesHigh (Made at exponent) = 4194304 ≤ at
+MakesHigh (Made at exponent) = 10485760 ≤ at
 MakesHigh event = Unit {0}
 
 MakeHigh : List Event → Type 0
@@ -86,7 +86,7 @@ unfolding MakeHigh
 make_append [] ys p q = q
 make_append (x ∷ xs) ys p q = (p.0, make_append xs ys p.1 q)
 
-made_high : (es : List ℕ) (base : ℕ) → 4194304 ≤ base → MakeHigh (map made_event (blocks_from base es))
+made_high : (es : List ℕ) (base : ℕ) → 10485760 ≤ base → MakeHigh (map made_event (blocks_from base es))
 unfolding MakeHigh MakesHigh
 made_high [] base h = tt
 made_high (e ∷ es) base h = (h, made_high es (base + 2 ^ e) (omega (arith, h)))
@@ -183,7 +183,7 @@ unfolding AreHigh
 high_append [] ys p q = q
 high_append (x ∷ xs) ys p q = (p.0, high_append xs ys p.1 q)
 
-high_from : (es : List ℕ) (base : ℕ) → 4194304 ≤ base → AreHigh (blocks_from base es)
+high_from : (es : List ℕ) (base : ℕ) → 10485760 ≤ base → AreHigh (blocks_from base es)
 unfolding AreHigh IsHigh
 high_from [] base h = tt
 high_from (e ∷ es) base h = (h, high_from es (base + 2 ^ e) (omega (arith, h)))
@@ -210,22 +210,22 @@ ever_high event ever made h = h
 
 -- ---- Safe accesses are off the size table
 
-lies_high : (bs : List Block) (at size : ℕ) → AreHigh bs → LieIn at size bs → 4194304 ≤ at
+lies_high : (bs : List Block) (at size : ℕ) → AreHigh bs → LieIn at size bs → 10485760 ≤ at
 unfolding AreHigh IsHigh
 lies_high [] at size high h = absurd h
 lies_high (b ∷ bs) at size high (inl h) = omega (arith, high.0, h.0)
 lies_high (b ∷ bs) at size high (inr h) = lies_high bs at size high.1 h
 
-held_high : (bs : List Block) (slot : ℕ) → AreHigh bs → IsSome (holder 4 slot bs) → 4194304 ≤ 16 * slot
+held_high : (bs : List Block) (slot : ℕ) → AreHigh bs → IsSome (holder 4 slot bs) → 10485760 ≤ 16 * slot
 unfolding AreHigh IsHigh
 held_high [] slot high h = cc
 held_high (b ∷ bs) slot high h = by (leb b.base (16 * slot)) refl (held_high bs slot high.1) h
   where
-    by : (low : Bool) → leb b.base (16 * slot) ≡ low → (IsSome (holder 4 slot bs) → 4194304 ≤ 16 * slot) → IsSome (cond (low && leb (16 * slot + 16) (end_of b)) (Some b) (holder 4 slot bs)) → 4194304 ≤ 16 * slot
+    by : (low : Bool) → leb b.base (16 * slot) ≡ low → (IsSome (holder 4 slot bs) → 10485760 ≤ 16 * slot) → IsSome (cond (low && leb (16 * slot + 16) (end_of b)) (Some b) (holder 4 slot bs)) → 10485760 ≤ 16 * slot
     by true e rest s = let from = leb-true b.base (16 * slot) e in omega (arith, from, high.0)
     by false e rest s = rest s
 
-reached_high : (live ever : List Block) (at size : ℕ) → AreHigh live → AreHigh ever → LieIn at size live ⊎ WasFreed 4 live ever (at / 2 ^ 4) → 4194304 ≤ at
+reached_high : (live ever : List Block) (at size : ℕ) → AreHigh live → AreHigh ever → LieIn at size live ⊎ WasFreed 4 live ever (at / 2 ^ 4) → 10485760 ≤ at
 reached_high live ever at size high highs (inl h) = lies_high live at size high h
 reached_high live ever at size high highs (inr h) = let held = held_high ever (at / 16) highs h.1 in omega (arith, held)
 
@@ -234,7 +234,7 @@ event_off live ever (Access pc at size true base) high highs access control = el
   | inl two ↦ inr (let stack = (control.0 two).0 in omega (arith, stack))
   | inr not_two ↦ elim (cases_eq base 31) [
     | inl table ↦ absurd (let reads = (control.1 table).0 in cc)
-    | inr not_table ↦ inr (reached_high live ever at size high highs (access not_two not_table))
+    | inr not_table ↦ inr (let reached = reached_high live ever at size high highs (access not_two not_table) in omega (arith, reached))
   ]
 ]
 event_off live ever (Access pc at size false base) high highs access control = tt
@@ -251,6 +251,23 @@ events_off [] live ever made high highs access control = tt
 events_off (event ∷ events) live ever made high highs access control = (
   event_off live ever event high highs access.0 control.0,
   events_off events (live_after event live) (ever_after event ever) made.1 (live_high event live made.0 high) (ever_high event ever made.0 highs) access.1 control.1,
+)
+
+data_high : (live ever : List Block) (event : Event) → AreHigh live → AreHigh ever → IsAccessSafe 4 live ever event → IsDataHigh event
+data_high live ever (Access pc at size write base) high highs access = λ not_two not_table. reached_high live ever at size high highs (access not_two not_table)
+data_high live ever (Move pc from to) high highs access = tt
+data_high live ever (Call pc target) high highs access = tt
+data_high live ever (Return pc target) high highs access = tt
+data_high live ever (Made at exponent) high highs access = tt
+data_high live ever (Ended at exponent) high highs access = tt
+data_high live ever (Line line) high highs access = tt
+
+each_data_high : (events : List Event) (live ever : List Block) → MakeHigh events → AreHigh live → AreHigh ever → Each (IsAccessSafe 4) live ever events → AreDataHigh events
+unfolding MakeHigh
+each_data_high [] live ever made high highs access = tt
+each_data_high (event ∷ events) live ever made high highs access = (
+  data_high live ever event high highs access.0,
+  each_data_high events (live_after event live) (ever_after event ever) made.1 (live_high event live made.0 high) (ever_high event ever made.0 highs) access.1,
 )
 
 pub table_is_kept : LawsBelow → (image : Image) (input : List ℕ) (n : ℕ) → IsImage image → All IsByte image.initial → All IsByte input → Each (IsAccessSafe 4) (global_blocks image) (global_blocks image) (events_of (machine_after image input n).told) → Each IsControlSafe (global_blocks image) (global_blocks image) (events_of (machine_after image input n).told) → IsTableOf 4 (live_in image (machine_after image input n)) (table_in (machine_after image input n).machine.core.memory)
@@ -281,8 +298,16 @@ events_before k n w le =
     let told = steps_told (n - k) k w in
     (events_of told.0, subst (λ (m : ℕ). events_of (steps m w).told ≡ events_of (steps k w).told ++ events_of told.0) whole (ap events_of told.1 ∙ events_append (steps k w).told told.0))
 
-pub safe_at_end : LawsBelow → (image : Image) (input : List ℕ) (n : ℕ) → IsImage image → All IsByte image.initial → All IsByte input → IsSafe 4 (global_blocks image) (machine_after image input n) → SafeRun 4 image input n
-safe_at_end below image input n h initial bytes safe k le =
+pub accesses_are_high : HeapLaws → (image : Image) (input : List ℕ) (n : ℕ) → Each (IsAccessSafe 4) (global_blocks image) (global_blocks image) (events_of (machine_after image input n).told) → AreDataHigh (events_of (machine_after image input n).told)
+unfolding MakeHigh
+accesses_are_high laws image input n access =
+    let w : World = record { machine = start image; left = input; told = [] } in
+    let globals = global_blocks image in
+    let high = high_from image.globals 10485760 (lit≤ tt) in
+    each_data_high (events_of (steps n w).told) globals globals (steps_high laws n w tt) high high access
+
+pub contained_at_end : LawsBelow → (image : Image) (input : List ℕ) (n : ℕ) → IsImage image → All IsByte image.initial → All IsByte input → IsContained 4 (global_blocks image) (machine_after image input n) → ContainedRun 4 image input n
+contained_at_end below image input n h initial bytes safe k le =
     let w : World = record { machine = start image; left = input; told = [] } in
     let globals = global_blocks image in
     let before = events_before k n w le in
@@ -294,8 +319,13 @@ safe_at_end below image input n h initial bytes safe k le =
       control = control_first;
       table = table_is_kept below image input k h initial bytes accesses_first control_first;
       returns = open_first first before.0 [] (subst (λ (l : List Event). IsSome (open_after [] l)) before.1 safe.returns);
-      traps = ending_before k n w le safe.traps;
     }
+
+pub safe_at_end : LawsBelow → (image : Image) (input : List ℕ) (n : ℕ) → IsImage image → All IsByte image.initial → All IsByte input → IsSafe 4 (global_blocks image) (machine_after image input n) → SafeRun 4 image input n
+safe_at_end below image input n h initial bytes safe k le = record {
+  contained = contained_at_end below image input n h initial bytes safe.contained k le;
+  traps = ending_before k n (record { machine = start image; left = input; told = [] }) le safe.traps;
+}
 
 -- and where the machine has ended then, it stays safe
 pub safe_ever_after : LawsBelow → (image : Image) (input : List ℕ) (n k : ℕ) → IsImage image → All IsByte image.initial → All IsByte input → IsSome (machine_after image input n).machine.ending → IsSafe 4 (global_blocks image) (machine_after image input n) → SafeRun 4 image input k

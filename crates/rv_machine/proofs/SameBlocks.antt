@@ -6,8 +6,7 @@ use Rattle.std.proofs.lemmas.List.Elements.{All-nil, All-cons, All-head, All-tai
 use Rattle.std.proofs.lemmas.Nat.{pow_pos}
 use Rattle.std.proofs.lemmas.Option.{same_Some, none-some}
 use Rattle.buddy_heap.specs.Places.{with_block, block_from}
-use Rattle.rv_machine.specs.Formed.{one_of, count_in, SameBlocks}
-use Rattle.size_table.specs.Blocks.{Block, block_at, MissEachOther, MissesAll, AreDisjoint, without}
+use Rattle.size_table.specs.Blocks.{Block, block_at, MissEachOther, MissesAll, AreDisjoint, without, one_of, count_in, SameBlocks}
 
 -- ---- One block
 

@@ -7,9 +7,8 @@ use Rattle.rv_code.specs.Laws.{ReadsOnly}
 use Rattle.size_table.specs.Made.{tabled, made, ended, all_made, all_ended}
 use Rattle.rv_machine.proofs.BlockLists.{LieBetween}
 use Rattle.rv_machine.proofs.BlockMemory.{IsMemory, filled_long, made_memory, all_ended_memory}
-use Rattle.size_table.specs.Blocks.{Block, IsBlock, MissEachOther, MissesAll, AreDisjoint, without}
+use Rattle.size_table.specs.Blocks.{Block, IsBlock, MissEachOther, MissesAll, AreDisjoint, without, count_in}
 use Rattle.rv_machine.specs.Environment.{ended_event}
-use Rattle.rv_machine.specs.Formed.{count_in}
 use Rattle.bb_watch.specs.Live.{live_of}
 use Rattle.rv_machine.proofs.EndedLists.{AreAmong, all_ended_blocks, last_ends}
 use Rattle.rv_machine.proofs.HeapLaws.{HeapLaws}

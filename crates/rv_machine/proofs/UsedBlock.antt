@@ -192,11 +192,13 @@ end_safe back below input bytes =
     let events = sym used.events in
     let accesses_end = subst (Each (IsAccessSafe 4) block block) events accesses_safe in
     let control_end = subst (Each IsControlSafe block block) events control_safe in record {
-      moves = subst (Each (IsMoveSafe 4) block block) events moves_safe;
-      accesses = accesses_end;
-      control = control_end;
-      table = table_is_kept below uses_block input 10 is_image (All-nil IsByte) bytes accesses_end control_end;
-      returns = subst (λ (l : List Event). IsSome (open_after [] l)) events refl;
+      contained = record {
+        moves = subst (Each (IsMoveSafe 4) block block) events moves_safe;
+        accesses = accesses_end;
+        control = control_end;
+        table = table_is_kept below uses_block input 10 is_image (All-nil IsByte) bytes accesses_end control_end;
+        returns = subst (λ (l : List Event). IsSome (open_after [] l)) events refl;
+      };
       traps = subst IsSafeEnding (sym used.ending) tt;
     }
 

@@ -6,6 +6,7 @@ use Rattle.bb_words.specs.declared.kinds.TrapKind.TheVariants.{Call}
 use Rattle.bb_watch.specs.declared.event.Event.{Event}
 use Rattle.bb_watch.specs.declared.event.Event.TheVariants.{Made, Ended}
 use Rattle.bb_watch.specs.Told.{Tell, Output, Happens}
+use Rattle.size_table.specs.declared.calls.TheConstants.{EXIT, GETCHAR, PUTCHAR, MALLOC, FREE, REPORT, ENTER, LEAVE}
 use Rattle.size_table.specs.declared.memory_map.TheConstants.{MOST_BYTES}
 use Rattle.size_table.specs.Blocks.{Block, block_at, without}
 use Rattle.buddy_heap.specs.Places.{place_of, with_block, block_from}
@@ -167,12 +168,12 @@ free_events s = map ended_event (freed_blocks (freeing s))
 -- the call whose number is in x17; any other number is a trap
 unfoldable pub calls : World → World
 calls w =
-    if register_of w.machine.core 17 == 1 then with_machine exits w
-    else if register_of w.machine.core 17 == 2 then gets w
-    else if register_of w.machine.core 17 == 3 then puts w
-    else if register_of w.machine.core 17 == 4 then telling malloc_events mallocs w
-    else if register_of w.machine.core 17 == 5 then telling free_events frees w
-    else if register_of w.machine.core 17 == 6 then with_machine reports w
-    else if register_of w.machine.core 17 == 7 then telling enter_events enters w
-    else if register_of w.machine.core 17 == 8 then telling leave_events leaves w
+    if register_of w.machine.core 17 == EXIT then with_machine exits w
+    else if register_of w.machine.core 17 == GETCHAR then gets w
+    else if register_of w.machine.core 17 == PUTCHAR then puts w
+    else if register_of w.machine.core 17 == MALLOC then telling malloc_events mallocs w
+    else if register_of w.machine.core 17 == FREE then telling free_events frees w
+    else if register_of w.machine.core 17 == REPORT then with_machine reports w
+    else if register_of w.machine.core 17 == ENTER then telling enter_events enters w
+    else if register_of w.machine.core 17 == LEAVE then telling leave_events leaves w
     else with_machine (halted (Trapped Call)) w

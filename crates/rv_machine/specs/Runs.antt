@@ -16,6 +16,7 @@ use Rattle.rv_machine.specs.Instruction.{Traps, Asks, core_step}
 use Rattle.rv_machine.specs.Environment.{World}
 use Rattle.bb_watch.specs.Told.{Tell, output_of}
 use Rattle.rv_machine.specs.Machine.{steps, IsBeforeCall}
+use Rattle.size_table.specs.declared.memory_map.TheConstants.{TABLE_START}
 use Rattle.size_table.specs.Blocks.{Block}
 
 -- what a source and a sink show at one moment
@@ -62,7 +63,7 @@ running core frames heap = record { core = core; frames = frames; heap = heap; e
 abbrev pub Paused : Effect → (n k : ℕ) → Core → Type 0
 Paused effect.Went n k core = k ≡ n
 Paused (effect.Trapped kind) n k core = (k < n) × (core_step core ≡ Traps kind)
-Paused effect.Asked n k core = (k < n) × (core_step core ≡ Asks) × (core.pc < 2097152)
+Paused effect.Asked n k core = (k < n) × (core_step core ≡ Asks) × (core.pc < TABLE_START)
 
 -- Why a run of at most n instructions came back. At a fault it stands after fewer, before the call that failed.
 abbrev pub Stops : Stop → ℕ → State → Shown → State → Shown → Type 0

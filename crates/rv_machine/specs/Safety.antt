@@ -25,15 +25,23 @@ IsSafeEnding ending = Unit {0}
 
 -- ---- Runs
 
--- what a run has come to is safe, where these blocks were live at the start
-pub record IsSafe (g : ℕ) (globals : List Block) (w : World) : Type 0 where
+-- what a run has come to keeps within its blocks and its code, where these blocks were live at the start
+pub record IsContained (g : ℕ) (globals : List Block) (w : World) : Type 0 where
   pub moves : Each (IsMoveSafe g) globals globals (events_of w.told)
   pub accesses : Each (IsAccessSafe g) globals globals (events_of w.told)
   pub control : Each IsControlSafe globals globals (events_of w.told)
   pub table : IsTableOf g (live_of globals (events_of w.told)) (table_in w.machine.core.memory)
   pub returns : IsSome (open_after [] (events_of w.told))
+
+-- it is safe if it has not ended by a trap of another kind besides
+pub record IsSafe (g : ℕ) (globals : List Block) (w : World) : Type 0 where
+  pub contained : IsContained g globals w
   pub traps : IsSafeEnding w.machine.ending
 
--- the first n instructions of an image are safe on an input
+-- the first n instructions of an image keep within on an input
+abbrev pub ContainedRun : ℕ → Image → List ℕ → ℕ → Type 0
+ContainedRun g image input n = (k : ℕ) → k ≤ n → IsContained g (global_blocks image) (machine_after image input k)
+
+-- they are safe
 abbrev pub SafeRun : ℕ → Image → List ℕ → ℕ → Type 0
 SafeRun g image input n = (k : ℕ) → k ≤ n → IsSafe g (global_blocks image) (machine_after image input k)

@@ -1,5 +1,6 @@
 -- What a machine holds.
 use Rattle.std.specs.Prelude.{ℕ, ◌+◌, ◌==◌, if◌then◌else◌, List, Option, Some, slice_index, slice_set}
+use Rattle.size_table.specs.declared.memory_map.TheConstants.{MEMORY_END}
 use Rattle.size_table.specs.Blocks.{Block}
 use Rattle.rv_machine.specs.declared.frames.Entered.{Entered}
 use Rattle.rv_machine.specs.declared.stop.Halt.{Halt}
@@ -26,7 +27,7 @@ pub record State : Type 0 where
 
 -- how many bytes the memory has; the number does not unfold by itself, since it is large
 unfoldable pub memory_size : ℕ
-memory_size = 33554432
+memory_size = MEMORY_END
 
 -- the content of a register
 abbrev pub register_of : Core → ℕ → ℕ

@@ -7,14 +7,9 @@ ghost use Rattle.rv_machine.specs.Frames.{stack_under};
 use crate::blocks::{end_all, make_all, total_size};
 use crate::core_step::Core;
 use bb_words::list::List;
+use size_table::memory_map::{HEAP_START, MOST_CALLS, STACK_START};
 use std::alloc::{AllocError, Global};
 use std::marker::Model;
-
-/// How many calls may be live.
-const MOST_CALLS: usize = 4096;
-
-/// Where the data stack ends, which grows downwards.
-const STACK_END: u32 = 0xC0_0000;
 
 /// A call that was entered: the number of its frame, and the stack number that it goes back to.
 #[derive(Clone, Copy)]
@@ -132,7 +127,7 @@ impl Frames {
         Ok(Frames {
             layouts,
             entered,
-            stack: 0x100_0000,
+            stack: HEAP_START,
         })
     }
 
@@ -153,7 +148,7 @@ impl Frames {
         }
         let exponents = layout(&self.layouts, at);
         let stack = stack_under(self.stack, exponents);
-        if stack < STACK_END {
+        if stack < STACK_START {
             return Entry::NoRoom;
         }
         make_all(core, stack, exponents);

@@ -1,5 +1,5 @@
 //! The laws of the machine, for what stands on it.
-ghost use Rattle.rv_machine.specs.Laws.{EndingStays, StepTells, ToldGrows, FieldsFit, InstructionDone, WordReadBack, OthersStay, WordsStand, StepsAdd, CoreStays, FormStays, RunsAreFormed, LiveAreLaidOut, OnlyToldChange, MadeIsZero, TextStays, TextStands, TableFollows, RunsHaveTable, TableIsKept, SafeAtEnd};
+ghost use Rattle.rv_machine.specs.Laws.{EndingStays, StepTells, ToldGrows, FieldsFit, InstructionDone, WordReadBack, OthersStay, WordsStand, StepsAdd, CoreStays, FormStays, RunsAreFormed, LiveAreLaidOut, OnlyToldChange, MadeIsZero, TextStays, TextStands, TableFollows, RunsHaveTable, TableIsKept, SafeAtEnd, ContainedAtEnd, SafeAccessesAreHigh, ByteReadBack, HalfReadBack, WordAtIndex, CallsKeep, PcIsAligned, MemoryStarts};
 
 /// A machine that has ended stays as it is.
 pub fn ending_stays()
@@ -34,6 +34,43 @@ pub fn instruction_done()
 pub fn word_read_back()
     ensures { WordReadBack }
 {}
+
+/// So is a byte.
+pub fn byte_read_back()
+    ensures { ByteReadBack }
+{}
+
+/// And so is a half.
+pub fn half_read_back()
+    ensures { HalfReadBack }
+{}
+
+/// Of words that stand in memory, each stands at its index.
+pub fn word_at_index()
+    ensures { WordAtIndex }
+{}
+
+/// An environment call that does not end the run goes on to the next instruction, and changes no register but x10.
+pub fn calls_keep()
+    ensures { CallsKeep }
+{}
+
+/// The program counter is a multiple of 4.
+pub fn pc_is_aligned()
+    ensures { PcIsAligned }
+{}
+
+/// What stands in memory at the start: the text, the size table of the global blocks and their initial bytes, and zeros.
+pub fn memory_starts()
+    ensures { MemoryStarts }
+{
+    rv_code::laws::reads_only();
+    size_table::laws::block_is_marked();
+    size_table::laws::marking_adds();
+    size_table::laws::marking_removes();
+    buddy_heap::laws::place_is_least();
+    size_table::laws::exponent_is_least();
+}
 
 /// An instruction keeps 32 registers with words in them, register 0 at 0, and the memory's size and bytes.
 pub fn core_stays()
@@ -143,6 +180,26 @@ pub fn runs_have_table()
 /// A run whose accesses are safe, and that keeps control, has the size table of the live blocks.
 pub fn table_is_kept()
     ensures { TableIsKept }
+{
+    rv_code::laws::reads_only();
+    size_table::laws::block_is_marked();
+    size_table::laws::marking_adds();
+    size_table::laws::marking_removes();
+    buddy_heap::laws::place_is_least();
+    size_table::laws::exponent_is_least();
+}
+
+/// Safe accesses by other registers than x2 and x31 are to the globals or above.
+pub fn safe_accesses_are_high()
+    ensures { SafeAccessesAreHigh }
+{
+    buddy_heap::laws::place_is_least();
+    size_table::laws::exponent_is_least();
+}
+
+/// A run that keeps within its blocks and its code at its end does so throughout.
+pub fn contained_at_end()
+    ensures { ContainedAtEnd }
 {
     rv_code::laws::reads_only();
     size_table::laws::block_is_marked();

@@ -14,6 +14,7 @@ use bb_words::word::Word;
 use buddy_heap::heap::Heap;
 use core::mem::replace_with;
 use rv_image::image::Image;
+use size_table::calls::{ENTER, EXIT, FREE, GETCHAR, LEAVE, MALLOC, PUTCHAR, REPORT};
 use size_table::memory_map::MOST_BYTES;
 use size_table::padding::exponent;
 use std::alloc::{AllocError, Global};
@@ -158,35 +159,35 @@ impl Machine {
         ensures cause { FaultCause result (I.faults input.old) (I.faults input.new) (O.faults output.old) (O.faults output.new) }
     {
         match self.core.register(17) {
-            1 => {
+            EXIT => {
                 self.exit();
                 None
             }
-            2 => match self.getchar(input) {
+            GETCHAR => match self.getchar(input) {
                 Ok(()) => None,
                 Err(_) => Some(Fault::Read),
             },
-            3 => match self.putchar(output) {
+            PUTCHAR => match self.putchar(output) {
                 Ok(()) => None,
                 Err(_) => Some(Fault::Write),
             },
-            4 => {
+            MALLOC => {
                 self.malloc();
                 None
             }
-            5 => {
+            FREE => {
                 self.free();
                 None
             }
-            6 => {
+            REPORT => {
                 self.report();
                 None
             }
-            7 => {
+            ENTER => {
                 self.enter();
                 None
             }
-            8 => {
+            LEAVE => {
                 self.leave();
                 None
             }

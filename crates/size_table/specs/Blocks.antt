@@ -43,3 +43,15 @@ AreDisjoint (b ∷ bs) = MissesAll b bs × AreDisjoint bs
 abbrev pub without : ℕ → List Block → List Block
 without at [] = []
 without at (b ∷ bs) = if b.base == at then bs else b ∷ without at bs
+
+-- how often a block stands in a list
+abbrev pub one_of : Block → Block → ℕ
+one_of b c = if (b.base == c.base) && (b.exponent == c.exponent) then 1 else 0
+
+abbrev pub count_in : Block → List Block → ℕ
+count_in b [] = 0
+count_in b (c ∷ cs) = one_of b c + count_in b cs
+
+-- two lists have the same blocks, in some order
+abbrev pub SameBlocks : List Block → List Block → Type 0
+SameBlocks xs ys = (b : Block) → count_in b xs ≡ count_in b ys

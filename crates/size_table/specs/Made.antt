@@ -4,9 +4,16 @@ use Rattle.size_table.specs.declared.memory_map.TheConstants.{TABLE_START}
 use Rattle.size_table.specs.Blocks.{Block, block_at}
 use Rattle.size_table.specs.Table.{filled}
 
--- the byte of each slot of the block in the size table is this one
+-- where the size table's bytes for the slots of a block begin in memory, and how many they are
+abbrev pub first_entry : Block → ℕ
+first_entry block = TABLE_START + block.base / 16
+
+abbrev pub entries : Block → ℕ
+entries block = 2 ^ block.exponent / 16
+
+-- each of them is this byte
 abbrev pub tabled : ℕ → Block → List ℕ → List ℕ
-tabled byte block memory = filled memory (TABLE_START + block.base / 16) (2 ^ block.exponent / 16) byte
+tabled byte block memory = filled memory (first_entry block) (entries block) byte
 
 -- a block is made: its bytes are zero, and the table has its exponent
 unfoldable pub made : Block → List ℕ → List ℕ

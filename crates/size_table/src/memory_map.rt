@@ -3,6 +3,9 @@
 //! Each region goes from its start to below the start of the next one. What lies below the text is the null page: an
 //! access to it traps.
 
+/// A slot has two to this power bytes: 16.
+pub const SLOT_EXPONENT: u8 = 4;
+
 /// The text: the words of the program.
 pub const TEXT_START: u32 = 0x1000;
 

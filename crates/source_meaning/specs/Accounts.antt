@@ -2,6 +2,7 @@
 use Rattle.std.specs.Prelude.{ℕ, suc, ◌+◌, ◌*◌, ◌%◌, nat_lt, nat_le, true, ◌&&◌, if◌then◌else◌, List, [], ◌∷◌, ◌++◌, length, slice_index_or, Option, Some, None, ℤ, pos}
 use Rattle.bb_words.specs.Answers.{Goes, Ends, and_then}
 use Rattle.bb_words.specs.declared.kinds.ReportKind.TheVariants as report
+use Rattle.size_table.specs.declared.memory_map.TheConstants.{STACK_START, MOST_CALLS, MOST_BYTES}
 use Rattle.size_table.specs.Pads.{exponent_of}
 use Rattle.buddy_heap.specs.Places.{place_of}
 use Rattle.block_layout.specs.Layout.{Item, Placed, layout, stack_under}
@@ -21,13 +22,6 @@ use Rattle.source_meaning.specs.Copies.{copy, fill}
 
 -- ---- Frames
 
--- the most calls that may be live at once, and the least stack number
-abbrev pub most_calls : ℕ
-most_calls = 4096
-
-abbrev pub least_stack : ℕ
-least_stack = 12582912
-
 abbrev pub object_of : ObjectKind → (start : ℕ) → Placed → Object
 object_of kind start placed =
     record { kind = kind; length = placed.length; live = true; base = start + placed.offset; exponent = placed.exponent }
@@ -44,8 +38,8 @@ entered_at base plan w = all_made Local base plan (record w { depth = suc w.dept
 -- with the line of the function's name.
 abbrev pub enter : (g line : ℕ) → List Item → World → Does Unit
 enter g line items w =
-    if nat_le most_calls w.depth then Ends (Reported report.Depth line) w
-    else if nat_lt (stack_under g w.stack items) least_stack then Ends (Reported report.Stack line) w
+    if nat_le MOST_CALLS w.depth then Ends (Reported report.Depth line) w
+    else if nat_lt (stack_under g w.stack items) STACK_START then Ends (Reported report.Stack line) w
     else Goes tt (entered_at (stack_under g w.stack items) (layout g items) w)
 
 -- A call returns: its block locals end, and the caller's depth and stack number are there again. The caller's world, when
@@ -55,10 +49,6 @@ leave items caller w =
     record (all_ended (length items) (length caller.objects) w) { depth = caller.depth; stack = caller.stack }
 
 -- ---- The heap
-
--- the most bytes that may be asked for
-abbrev pub largest_request : ℕ
-largest_request = 16777216
 
 abbrev pub allocated_at : (g n : ℕ) → Option ℕ → World → Does Value
 allocated_at g n None w = Goes (Ptr Null) w
@@ -70,7 +60,7 @@ allocated_at g n (Some base) w =
 -- where n is too large or there is no place
 abbrev pub allocate : (g n : ℕ) → World → Does Value
 allocate g n w =
-    if nat_lt largest_request n then Goes (Ptr Null) w
+    if nat_lt MOST_BYTES n then Goes (Ptr Null) w
     else allocated_at g n (place_of (heap_blocks w.objects) (exponent_of g n)) w
 
 abbrev pub freed_in : (line k : ℕ) → ℤ → Option Object → World → Does Value

@@ -1,5 +1,6 @@
--- What is done with ranges of bytes: copies (C11 6.5.16.1 p3, 7.24.2.1), sets (7.24.6.1) and initializers (6.7.9).
+-- What is done with ranges of bytes: copies (C11 6.5.16.1 p2, 7.24.2.1), sets (7.24.6.1) and initializers (6.7.9).
 use Rattle.std.specs.Prelude.{ℕ, zero, suc, ◌+◌, ◌-◌, ◌%◌, nat_lt, if◌then◌else◌, List, Option, Some, None}
+use Rattle.size_table.specs.declared.memory_map.TheConstants.{MOST_BYTES}
 use Rattle.bb_words.specs.Answers.{Goes, Ends, and_then}
 use Rattle.bb_words.specs.Numbers.{signed}
 use Rattle.bb_words.specs.Steps.{size_of_width}
@@ -15,10 +16,6 @@ use Rattle.source_meaning.specs.Worlds.{World, Does, outside, object_at}
 use Rattle.source_meaning.specs.Moves.{move}
 use Rattle.source_meaning.specs.Accesses.{touch}
 
--- the most bytes that a range may have
-abbrev pub longest_range : ℕ
-longest_range = 16777216
-
 abbrev pub spanned : (g site line n : ℕ) → Pointer → ℕ × ℕ → World → Does (ℕ × ℕ)
 spanned g site line n q first w =
     and_then (move g site line (signed (n - 1)) q w) (λ last w1. and_then (touch last w1) (λ b. Goes first))
@@ -27,7 +24,7 @@ spanned g site line n q first w =
 -- is touched. It gives the place of the first byte.
 abbrev pub span : (g site line n : ℕ) → Pointer → World → Does (ℕ × ℕ)
 span g site line n q w =
-    if nat_lt longest_range n then Ends (Reported Bounds line) w else and_then (touch q w) (spanned g site line n q)
+    if nat_lt MOST_BYTES n then Ends (Reported Bounds line) w else and_then (touch q w) (spanned g site line n q)
 
 -- so many bytes were copied, set or cleared
 abbrev pub with_bytes : ℕ → Cells → World → World
@@ -37,7 +34,7 @@ abbrev pub copied_to : (n : ℕ) → (source target : ℕ × ℕ) → World → 
 copied_to n a b w = Goes tt (with_bytes n (copied n w.cells a.0 a.1 b.0 b.1) w)
 
 -- n bytes are copied from one pointer to another: the span of the source, then that of the target, and then byte by byte
--- upwards, parts of pointers included. No bytes look at no pointer.
+-- upwards, parts of pointers included. A copy of no bytes looks at neither pointer.
 abbrev pub copy : (g site_source site_target line n : ℕ) → (target source : Pointer) → World → Does Unit
 copy g a b line zero q r w = Goes tt w
 copy g a b line (suc n) q r w =

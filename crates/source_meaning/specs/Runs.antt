@@ -3,6 +3,7 @@
 use Rattle.std.specs.Prelude.{ℕ, zero, suc, ◌+◌, ◌*◌, nat_le, if◌then◌else◌, List, [], ◌∷◌, length, Option, Some, None, slice_get, slice_index_or}
 use Rattle.bb_words.specs.Answers.{Goes, Ends, and_then}
 use Rattle.bb_words.specs.declared.kinds.ReportKind.TheVariants.{Depth}
+use Rattle.size_table.specs.declared.memory_map.TheConstants.{MOST_CALLS}
 use Rattle.block_layout.specs.Layout.{Placed, layout, position_of}
 use Rattle.block_layout.specs.Objects.{globals_of, block_items}
 use Rattle.c_typed.specs.Types.{CType, is_pointer}
@@ -17,7 +18,7 @@ use Rattle.source_meaning.specs.declared.values.Signal.TheVariants.{Falls, Broke
 use Rattle.source_meaning.specs.declared.values.Ending.{Ending}
 use Rattle.source_meaning.specs.declared.values.Ending.TheVariants.{Exited, Reported, Cut}
 use Rattle.source_meaning.specs.Worlds.{World, with_number}
-use Rattle.source_meaning.specs.Accounts.{most_calls, enter, leave}
+use Rattle.source_meaning.specs.Accounts.{enter, leave}
 use Rattle.source_meaning.specs.Start.{start_world}
 use Rattle.source_meaning.specs.Sites.{first_site}
 use Rattle.source_meaning.specs.States.{State, Runs, count, doing, local_place, write}
@@ -80,7 +81,7 @@ call_if_any g (Some f) body vs c = call_function g f (body f) vs c
 -- A call that is nested too deeply is cut, unless so many calls are live that it is reported however many may be nested.
 abbrev pub call_past : Option CFunction → State → Runs Value
 call_past None c = Ends Cut c
-call_past (Some f) c = if nat_le most_calls c.world.depth then Ends (Reported Depth f.line) (count_call f c) else Ends Cut c
+call_past (Some f) c = if nat_le MOST_CALLS c.world.depth then Ends (Reported Depth f.line) (count_call f c) else Ends Cut c
 
 -- the calls of which at most n are nested
 abbrev pub calls : (g : ℕ) → CProgram → (m n : ℕ) → Calls

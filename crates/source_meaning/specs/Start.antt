@@ -1,5 +1,6 @@
 -- The world before a program starts: its global objects are there, laid out by declining padded size.
 use Rattle.std.specs.Prelude.{ℕ, List, [], map, Option, Some, None, slice_get, pos}
+use Rattle.size_table.specs.declared.memory_map.TheConstants.{GLOBALS_START, HEAP_START}
 use Rattle.block_layout.specs.Layout.{Placed, layout, position_of}
 use Rattle.block_layout.specs.Objects.{Stored, items_of, global_number}
 use Rattle.c_typed.specs.declared.typed.GlobalObject.{GlobalObject}
@@ -13,13 +14,6 @@ use Rattle.source_meaning.specs.declared.values.ObjectKind.TheVariants.{Global}
 use Rattle.source_meaning.specs.Objects.{Cells}
 use Rattle.source_meaning.specs.Worlds.{World}
 use Rattle.source_meaning.specs.Accounts.{object_of}
-
--- where the global objects begin, and the stack number at first
-abbrev pub globals_start : ℕ
-globals_start = 10485760
-
-abbrev pub first_stack : ℕ
-first_stack = 16777216
 
 -- the pointer to a global object, where so many have names and the global objects are laid out so
 abbrev pub pointer_to : (named : ℕ) → List Placed → GlobalObject → Pointer
@@ -45,12 +39,12 @@ first_cells named os plan k i = first_cell named plan (slice_get (initial_at os 
 
 abbrev pub laid_out : (named : ℕ) → List Stored → List Placed → (input : List ℕ) → World
 laid_out named os plan input = record {
-  objects = map (object_of Global globals_start) plan;
+  objects = map (object_of Global GLOBALS_START) plan;
   cells = first_cells named os plan;
   rest = input;
   output = [];
   depth = 0;
-  stack = first_stack;
+  stack = HEAP_START;
   trail = [];
   bytes = 0;
 }

@@ -1,8 +1,8 @@
 use Rattle.std.proofs.Common.{◌≡◌, ℕ, List, length, Some, sym, ap, subst, ◌∙◌, arith}
 use Rattle.std.specs.List.{insert}
-use Rattle.buddy_heap.specs.Places.{place_of, blocks_of, with_block, count_to, AreBlocks, LieInOrder}
+use Rattle.buddy_heap.specs.Places.{place_of, blocks_of, with_block, count_to, AreBlocks, HaveExponents, LieInOrder}
 use Rattle.size_table.specs.Blocks.{block_at}
-use Rattle.buddy_heap.proofs.Lists.{count_within, inserted, is_taken}
+use Rattle.buddy_heap.proofs.Lists.{count_within, have_exponents, inserted, is_taken}
 use Rattle.buddy_heap.proofs.heap.Heap.take.Goals as goal
 
 pub put-requires-clause-within : goal.put-requires-clause-within
@@ -43,3 +43,7 @@ returns-in-Some-clause-block c =
     let ps = c.self.inside.blocks.items in
     let is : place_of (blocks_of ps) c.args.e ≡ Some c.in-Some.base = ap (λ (xs : List (ℕ × ℕ)). place_of (blocks_of xs) c.args.e) (sym c.deref.ensures.value) ∙ sym c.place_in.ensures ∙ c.in-Some.is in
     (is_taken ps c.args.e c.in-Some.base c.requires.least c.requires.most c.self.invariant.0 c.self.invariant.1 is).block
+
+pub place_in-requires-clause-exponents : goal.place_in-requires-clause-exponents
+place_in-requires-clause-exponents c =
+    subst HaveExponents (sym c.deref.ensures.value) (have_exponents c.self.inside.blocks.items c.self.invariant.0)
