@@ -1,5 +1,5 @@
 //! A shelf in memory.
-ghost use Rattle.std.specs.Prelude.{◌≤◌, length};
+ghost use Rattle.std.specs.Prelude.{◌≡◌, ◌≤◌, ◌-◌, min, length};
 ghost use Rattle.bb_outside.specs.Files.{Copies};
 
 use crate::mem_source::is_listed;
@@ -56,10 +56,10 @@ impl MemShelf {
 }
 
 impl Shelf for MemShelf {
-    ghost use Rattle.std.specs.Prelude.{◌≡◌, ◌≢◌, ◌↔◌, ℕ, List, OnOk, IsErrOf, Contains, if◌then◌else◌};
+    ghost use Rattle.std.specs.Prelude.{◌≡◌, ◌≢◌, ◌↔◌, ℕ, List, OnOk, OnErr, IsErrOf, Contains};
     ghost use Rattle.bb_outside.specs.Causes.{counted};
     ghost use Rattle.bb_outside.specs.Files.{Stays, Made, Reads, ReadsAtMost, ReadHasCause, WriteHasCause};
-    ghost use Rattle.bb_outside.specs.Shelves.{file_of, failing_of, calls_of, faults_of, misses_of};
+    ghost use Rattle.bb_outside.specs.Shelves.{file_of, failing_of, calls_of, faults_of, misses_of, is_fault, is_miss, raised, Fills};
 
     ghost file = { file_of };
 
@@ -75,7 +75,10 @@ impl Shelf for MemShelf {
         ensures failing { failing_of self.new ≡ failing_of self.old }
         ensures fails { IsErrOf result ShelfFailed.Fault ↔ Contains (failing_of self.old) (calls_of self.old) }
         ensures memory { result ≢ Err ShelfFailed.Memory }
+        ensures fills { Fills (file_of self.old name.now) at into.new result }
         ensures calls { calls_of self.new ≡ counted (calls_of self.old) }
+        ensures faults { faults_of self.new ≡ raised (is_fault result) (faults_of self.old) }
+        ensures misses { misses_of self.new ≡ raised (is_miss result) (misses_of self.old) }
     {
         let call = self.calls;
         self.calls = call.saturating_add(1);
@@ -99,7 +102,10 @@ impl Shelf for MemShelf {
         ensures cause { WriteHasCause (faults_of self.old) (faults_of self.new) (misses_of self.old) (misses_of self.new) result }
         ensures failing { failing_of self.new ≡ failing_of self.old }
         ensures fails { IsErrOf result ShelfFailed.Fault ↔ Contains (failing_of self.old) (calls_of self.old) }
+        ensures err { OnErr result ((other : List ℕ) → file_of self.new other ≡ file_of self.old other) }
         ensures calls { calls_of self.new ≡ counted (calls_of self.old) }
+        ensures faults { faults_of self.new ≡ raised (is_fault result) (faults_of self.old) }
+        ensures misses { misses_of self.new ≡ misses_of self.old }
     {
         let call = self.calls;
         self.calls = call.saturating_add(1);
@@ -115,6 +121,7 @@ impl Shelf for MemShelf {
 fn copy_from(bytes: &[u8], at: u64, into: &mut [u8]) -> usize
     ensures copied { Copies bytes.now at into.new result }
     ensures bound { result ≤ length into.new }
+    ensures count { result ≡ min (length into.new) (length bytes.now - at) }
 {
     let len = bytes.len() as u64;
     if at >= len {

@@ -1,5 +1,5 @@
 //! A sink in memory.
-ghost use Rattle.std.specs.Prelude.{◌≡◌, ◌↔◌, ◌⊎◌, IfOk, IsErr, Some, [], ◌≢◌, ◌≤◌, Contains, length, is_err, if◌then◌else◌};
+ghost use Rattle.std.specs.Prelude.{◌≡◌, ◌↔◌, ◌⊎◌, ◌-◌, min, IfOk, IsErr, Some, [], ◌≢◌, ◌≤◌, Contains, length, is_err, if◌then◌else◌};
 ghost use Rattle.bb_outside.specs.Causes.{counted, HasCause};
 ghost use Rattle.bb_outside.specs.Streams.{TakesSome, Puts};
 
@@ -64,6 +64,7 @@ impl Sink for MemSink {
         ensures cause { HasCause self.old.faults self.new.faults result }
         ensures settings { (self.new.failing ≡ self.old.failing) × (self.new.room ≡ self.old.room) }
         ensures fails { IsErr result ↔ ((piece.now ≢ []) × (Contains self.old.failing self.old.calls ⊎ (self.old.room ≤ length self.old.written))) }
+        ensures room { IfOk result (λ count. count ≡ min (length piece.now) (self.old.room - length self.old.written)) }
         ensures calls { self.new.calls ≡ counted self.old.calls }
         ensures faults { self.new.faults ≡ (if is_err result then counted self.old.faults else self.old.faults) }
     {

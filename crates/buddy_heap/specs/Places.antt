@@ -96,6 +96,11 @@ abbrev pub plus : ℕ → Option ℕ → Option ℕ
 plus n None = None
 plus n (Some i) = Some (n + i)
 
+-- the exponent of the block that begins there
+abbrev pub IsExponentAt : ℕ → List Block → Option ℕ → Type 0
+IsExponentAt at blocks None = block_from at blocks ≡ None
+IsExponentAt at blocks (Some e) = block_from at blocks ≡ Some (block_at at e)
+
 -- what comes of giving back what begins there: its exponent, and the others stay; or no block begins there
 abbrev pub IsGiven : {E : Type 0} → ℕ → (old new : List Block) → Result ℕ E → Type 0
 IsGiven at old new (Ok e) = (block_from at old ≡ Some (block_at at e)) × (new ≡ without at old) × IsBlock 4 (block_at at e)

@@ -2,7 +2,7 @@
 ghost use Rattle.std.specs.Prelude.{◌≡◌, ◌+◌, ◌-◌, ◌*◌, ◌/◌, ◌^◌, ◌<◌, ◌≤◌, [], length, vec_len, vec_capacity, IfOk, IfNone, IfSome, IfErr};
 ghost use Rattle.std.specs.List.{insert};
 ghost use Rattle.size_table.specs.Blocks.{IsBlock, block_at};
-ghost use Rattle.buddy_heap.specs.Places.{place_of, is_clear, with_block, blocks_of, HaveExponents, count_to, index_of, IsGiven};
+ghost use Rattle.buddy_heap.specs.Places.{place_of, is_clear, with_block, blocks_of, HaveExponents, count_to, index_of, IsExponentAt, IsGiven};
 
 use size_table::memory_map::{HEAP_START, MEMORY_END};
 use std::alloc::{AllocError, Global};
@@ -44,6 +44,25 @@ impl Heap {
     {
         let blocks = Vec::with_capacity(alloc, MOST_BLOCKS)?;
         Ok(Heap { blocks })
+    }
+
+    /// Where a block of 2^e bytes would come: the least place that is clear of the blocks, or `None` where there is none.
+    pub fn place(&self, e: u8) -> Option<u32>
+        requires least { 4 ≤ e }
+        requires most { e ≤ 24 }
+        ensures { result ≡ place_of self.now e }
+    {
+        place_in(&self.blocks, e)
+    }
+
+    /// The exponent of the block that begins at `at`, or `None` where no live block begins there.
+    pub fn exponent_at(&self, at: u32) -> Option<u8>
+        ensures { IsExponentAt at self.now result }
+    {
+        match index_of(&self.blocks, at) {
+            Some(i) => Some(self.blocks[i].1),
+            None => None,
+        }
     }
 
     /// Makes a block of 2^e bytes at the least place that is clear of the others: its base, or `None` where there is no

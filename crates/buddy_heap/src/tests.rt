@@ -22,3 +22,16 @@ fn takes_the_least_places(rt: HostRuntime) -> Result<(), Fail> {
     assert_eq!(rt; given(&mut heap, 0x100_0010), None);
     Ok(())
 }
+
+#[test]
+fn takes_each_size_again(rt: HostRuntime) -> Result<(), Fail> {
+    let mut heap = Heap::new(rt.alloc())?;
+    for e in 4..25 {
+        assert_eq!(rt; heap.take(e), Some(0x100_0000));
+        assert_eq!(rt; given(&mut heap, 0x100_0008), None);
+        assert_eq!(rt; given(&mut heap, 0x100_0000), Some(e));
+        assert_eq!(rt; heap.take(e), Some(0x100_0000));
+        assert_eq!(rt; given(&mut heap, 0x100_0000), Some(e));
+    }
+    Ok(())
+}

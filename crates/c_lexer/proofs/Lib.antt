@@ -7,4 +7,3 @@ pub mod SpaceLemmas
 pub mod PieceLemmas
 pub mod TextLemmas
 pub mod ReadLemmas
-pub mod PlacedLemmas

@@ -1,6 +1,6 @@
 -- The tokens of a text, or its refusal.
-use Rattle.std.specs.Prelude.{◌≡◌, ℕ, ◌+◌, ◌<◌, ◌≤◌, List, [], ◌∷◌, ◌++◌, length, take, drop, Option, Some, None, Result, Ok, Err}
-use Rattle.c_words.specs.Tokens.{Token}
+use Rattle.std.specs.Prelude.{◌≡◌, ℕ, suc, ◌+◌, ◌<◌, ◌≤◌, List, [], ◌∷◌, ◌++◌, length, take, drop, Option, Some, None, Result, Ok, Err}
+use Rattle.c_words.specs.Tokens.{Token, Placed}
 use Rattle.c_lexer.specs.declared.fault.Fault.{Fault}
 use Rattle.c_lexer.specs.declared.fault.LexError.{LexError}
 use Rattle.c_lexer.specs.declared.fault.LexError.TheVariants.{TooLong}
@@ -14,6 +14,15 @@ pub record Lexeme : Type 0 where
   pub start : ℕ
   pub len : ℕ
   pub line : ℕ
+
+-- the tokens as the grammar reads them, with their numbers from this one on, and their lines
+abbrev pub placed_from : ℕ → List Lexeme → List Placed
+placed_from n [] = []
+placed_from n (t ∷ ts) = record { token = t.token; at = record { token = n; line = t.line } } ∷ placed_from (suc n) ts
+
+-- with their numbers from 0
+abbrev pub placed : List Lexeme → List Placed
+placed ts = placed_from 0 ts
 
 pub record Piece : Type 0 where
   pub spelling : List ℕ

@@ -1,6 +1,6 @@
 -- What a contract sees of tokens.
-use Rattle.std.specs.Prelude.{◌≡◌, ℕ, ◌+◌, List, [], ◌∷◌, map, Result, Ok, Err}
-use Rattle.c_words.specs.Tokens.{Token, Placed}
+use Rattle.std.specs.Prelude.{◌≡◌, ℕ, List, map, Result, Ok, Err}
+use Rattle.c_words.specs.Tokens.{Token}
 use Rattle.c_lexer.specs.declared.token.TokenKind.{TokenKind}
 use Rattle.c_lexer.specs.declared.token.TokenKind.TheVariants as kinds
 use Rattle.c_lexer.specs.declared.token.Token as rust
@@ -22,15 +22,6 @@ lexeme_of t = record { token = token_of t.kind; start = t.start; len = t.len; li
 
 abbrev pub lexemes : List rust.Token → List Lexeme
 lexemes ts = map lexeme_of ts
-
--- the tokens with their numbers, from this one on, and their lines
-abbrev pub placed_from : ℕ → List rust.Token → List Placed
-placed_from n [] = []
-placed_from n (t ∷ ts) = record { token = token_of t.kind; at = record { token = n; line = t.line } } ∷ placed_from (n + 1) ts
-
--- the tokens with their numbers, from 0, and their lines, from 1
-abbrev pub placed : List rust.Token → List Placed
-placed ts = placed_from 0 ts
 
 -- What was returned is the text's reading, unless memory ran out.
 abbrev pub IsReading : List ℕ → Result (List rust.Token) LexError → Type 0

@@ -1,5 +1,6 @@
 pub mod Types
 pub mod TypesViewed
+pub mod Numbers
 pub mod TypedTree
 pub mod TypedViews
 pub mod Sizes

@@ -16,14 +16,10 @@ use Rattle.flat_code.specs.World.{zeroed, with_bytes, bytes_of, arguments, FWorl
 use Rattle.flat_code.specs.Accounts.{make, end, make_all, end_all, stack_under, enter, leave, allot, malloc, heap_block, give_back, free}
 use Rattle.flat_code.specs.Time.{charge, turn_charge, call_charge}
 use Rattle.flat_code.specs.Run.{goes, ends, refusal, unless_refused, access, get, environment, turns, inner_turns, Calls, act, act_all, returned, body_with, framed_if, counted, no_calls, library, defined, call_none, call_one, calls, start, exited, flat_run}
-use Rattle.flat_code.proofs.Fronts.{tells_append, live_appends}
+use Rattle.flat_code.proofs.Fronts.{all_by_later, tells_append, live_appends}
 use Rattle.flat_code.specs.Laws.{IsAfter, Advances, CallsAdvance, StepsAdvance, ProgramsAdvance, AllCame}
 
 -- ---- Worlds that come after one another
-
-all_by_later : (a b : ℕ) (xs : List Stamped) → a ≤ b → AllBy a xs → AllBy b xs
-all_by_later a b [] le h = tt
-all_by_later a b (x ∷ xs) le h = (let q : x.time ≤ b = omega (arith, h.0) in q, all_by_later a b xs le h.1)
 
 all_by_append : (t : ℕ) (xs ys : List Stamped) → AllBy t xs → AllBy t ys → AllBy t (xs ++ ys)
 all_by_append t [] ys h k = k

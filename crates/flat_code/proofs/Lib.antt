@@ -7,3 +7,5 @@ pub mod Span
 pub mod Worked
 pub mod More
 pub mod Fronts
+pub mod Found
+pub mod Straight

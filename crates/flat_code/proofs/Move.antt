@@ -298,20 +298,11 @@ module _ (g : ℕ) (call : Calls) (m frame p d q line s e : ℕ) (apart : MoveAp
       let v11 : Words = with_word v10 q (arith_of op.Ltu (v10 s) (v10 e)) in
       let B = arith_of op.Ltu O size in
       let h11 : Holds v11 B O size = set_q v10 A O size _ B (arith_is op.Ltu v10 s e O size B h10.at_s h10.at_e refl) h10 in
-      let w1 : FWorld = spend 3 w in
-      let w2 : FWorld = spend 5 w1 in
-      let w3 : FWorld = spend 5 w2 in
-      let w4 : FWorld = spend 5 w3 in
-      let w5 : FWorld = spend 3 w4 in
-      let w6 : FWorld = spend 5 w5 in
-      let w7 : FWorld = spend 3 w6 in
-      let w8 : FWorld = spend 5 w7 in
-      let w9 : FWorld = spend 5 w8 in
-      let w10 : FWorld = spend 5 w9 in
-      let w11 : FWorld = spend 5 w10 in
-      later 103 3 w _ _ (later 98 5 w1 _ _ (later 93 5 w2 _ _ (later 88 5 w3 _ _ (later 85 3 w4 _ _ (later 80 5 w5 _ _
-      (later 77 3 w6 _ _ (later 72 5 w7 _ _ (later 67 5 w8 _ _ (later 62 5 w9 _ _ (later 57 5 w10 _ _ (later 51 6 w11 _ _
-      (tail v11 (spend 6 w11) B O size (nat_lt O size) low high most refl h11))))))))))))
+      let x : FWorld = spend 6 (spend 5 (spend 5 (spend 5 (spend 5 (spend 3 (spend 5 (spend 3 (spend 5 (spend 5 (spend 5 (spend 3 w))))))))))) in
+      let same_time : spend 55 w ≡ x = ap (λ t. record w { time = t }) (let z : w.time + 55 ≡ w.time + 3 + 5 + 5 + 5 + 3 + 5 + 3 + 5 + 5 + 5 + 5 + 6 = omega arith in z) in
+      let a : MoveAnswer = tested g E A O in
+      let r : Run Way = then_go (choose (v11 q == 0) (act_all g call m frame (outside_steps g p d q line s e)) (act_all g call m frame (address_steps p d q)) (point v11 x)) checks in
+      later 51 55 w a r (subst (λ y. Does 51 y a r) (sym same_time) (tail v11 x B O size (nat_lt O size) low high most refl h11))
 
   -- the table's byte is looked at, and tested
   after_look : MovesByTests → (v : Words) (w : FWorld) (slot Q E : ℕ) → 1 ≤ g → g ≤ 24 → owner_slot g P ≡ Some slot → slot < 2 ^ (25 - g) → E ≤ 24 → Holds v Q slot E

@@ -10,7 +10,7 @@ use Rattle.flat_code.specs.Code.{FSteps, FFunction, FCode, none, steps, ◌+++�
 use Rattle.flat_code.specs.Code.FStep.{Number, Arith, If, Loop, Exit, Call, Return, FrameAt, Load, Store, LineMark, Env}
 use Rattle.flat_code.specs.Told.{Tell, tells}
 use Rattle.flat_code.specs.Told.Tell.{Output, Line, Move, Access, Made, Ended}
-use Rattle.flat_code.specs.World.{Ending, Run}
+use Rattle.flat_code.specs.World.{FPoint, Ending, Run}
 use Rattle.flat_code.specs.Run.{act_all, no_calls, start, flat_run}
 use Rattle.flat_code.specs.Sequences.{move_sequence, load_sequence, span_sequence}
 use Rattle.flat_code.specs.Weight.{steps_size}
@@ -49,6 +49,13 @@ summing =
 abbrev pub moving : (distance : ℕ) → FSteps
 moving distance =
     steps (Number 0 0xA00000 ∷ Number 1 distance ∷ Number 2 7 ∷ []) +++ (move_sequence 4 0 1 3 2 4 5 +++ steps (Store 3 2 width.Byte ∷ Return 2 ∷ []))
+
+-- the same with slots of 32 bytes, without the store
+abbrev pub wide : (distance : ℕ) → FSteps
+wide distance = steps (Number 0 0xA00000 ∷ Number 1 distance ∷ Number 2 7 ∷ []) +++ move_sequence 5 0 1 3 2 4 5
+
+abbrev pub wide_start : FPoint
+wide_start = start [] (block_at 0xA00000 5 ∷ []) []
 
 -- two numbers are subtracted by a second function
 abbrev pub calling : List FFunction
@@ -99,6 +106,9 @@ pub record ExamplesRun : Type 0 where
   pub move_inside : runs (moving 4) [] 1 ≡ seen (Ending.Exited 7) (Move 0xA00000 0xA00004 ∷ Access 0xA00004 1 true ∷ [])
   pub move_marked : runs (moving 20) [] 1 ≡ seen (Ending.Trapped trap.Marked) (Move 0xA00000 0x80A00014 ∷ [])
   pub move_out : runs (moving 24) [] 1 ≡ seen (Ending.Reported report.Bounds 7) []
+  -- the same for slots of 32 bytes, in a block of 32 bytes
+  pub wide_marked : shown (act_all 5 no_calls 1 0 (wide 40) wide_start) ≡ seen Ending.Cut (Move 0xA00000 0x80A00028 ∷ [])
+  pub wide_out : shown (act_all 5 no_calls 1 0 (wide 48) wide_start) ≡ seen (Ending.Reported report.Bounds 7) []
   pub heap : does allocating ≡ seen (Ending.Reported report.BadFree 9) (Made 0x1000000 5 ∷ Ended 0x1000000 5 ∷ [])
   pub input : runs echoing (72 ∷ 105 ∷ []) 3 ≡ seen (Ending.Exited 0) (Output 72 ∷ Output 105 ∷ [])
   pub frame : shown (flat_run 4 (code_with (framing ∷ [])) [] ((5 ∷ 4 ∷ []) ∷ []) [] 1) ≡ seen (Ending.Exited 258)

@@ -1,14 +1,16 @@
 -- What holds of flat code.
-use Rattle.std.specs.Prelude.{◌≡◌, ◌⊎◌, ◌↔◌, ℕ, ◌-◌, ◌^◌, ◌<◌, ◌≤◌, List, ◌++◌, Some, None}
+use Rattle.std.specs.Prelude.{◌≡◌, ◌⊎◌, ◌↔◌, ℕ, ◌+◌, ◌-◌, ◌^◌, ◌<◌, ◌≤◌, List, ◌++◌, true, Some, None}
 use Rattle.bb_words.specs.Answers.{Answer}
 use Rattle.bb_words.specs.declared.kinds.ReportKind.TheVariants.{Bounds}
 use Rattle.bb_words.specs.declared.steps.Width.TheVariants.{Pointer}
 use Rattle.marked_ptr.specs.Marked.{owner_slot, moved}
 use Rattle.size_table.specs.Blocks.{Block}
 use Rattle.size_table.specs.Table.{byte_of}
-use Rattle.flat_code.specs.Code.{FSteps, FFunction, FCode}
+use Rattle.flat_code.specs.Code.{FSteps, FFunction, FCode, ◌+++◌}
+use Rattle.flat_code.specs.Recognized.{Sequence, sequence_steps, is_apart, starts, sequence_at}
 use Rattle.flat_code.specs.Told.{Tell, Stamped, tells, output_of, trail_of, Begins, AllBy}
 use Rattle.flat_code.specs.Safety.{live_of, ever_of, AllSafe}
+use Rattle.flat_code.specs.Time.{AreStraight, charges}
 use Rattle.flat_code.specs.World.{Words, read, FWorld, FPoint, point, spend, Ending, Run, Way}
 use Rattle.flat_code.specs.Run.{refusal, Calls, act_all, calls, flat_run}
 use Rattle.flat_code.specs.Sequences.{move_sequence, MoveApart, DoesMove, move_time, load_sequence, LoadApart, may_be_loaded, DoesLoad, span_sequence, SpanApart, span_begin, SpanKept, DoesSpan}
@@ -33,6 +35,27 @@ EverAppends = (ever : List Block) (xs ys : List Tell) → ever_of ever (xs ++ ys
 -- two lists are safe one after the other exactly if the first is, and the second with the blocks after the first
 abbrev pub SafeAppends : Type 0
 SafeAppends = (g : ℕ) (live ever : List Block) (xs ys : List Tell) → AllSafe g live ever (xs ++ ys) ↔ (AllSafe g live ever xs × AllSafe g (live_of live xs) (ever_of ever xs) ys)
+
+-- what came by a time came by every later one
+abbrev pub AllByLater : Type 0
+AllByLater = (a b : ℕ) (xs : List Stamped) → a ≤ b → AllBy a xs → AllBy b xs
+
+abbrev pub AllByAppends : Type 0
+AllByAppends = (t : ℕ) (xs ys : List Stamped) → AllBy t (xs ++ ys) ↔ (AllBy t xs × AllBy t ys)
+
+-- of two fronts of one list one begins with the other
+abbrev pub FrontsCompare : Type 0
+FrontsCompare = (told xs ys : List Stamped) → Begins told xs → Begins told ys → Begins xs ys ⊎ Begins ys xs
+
+-- what begins with a list also begins so in its output and its trail
+abbrev pub OutputBegins : Type 0
+OutputBegins = (xs ys : List Tell) → Begins xs ys → Begins (output_of xs) (output_of ys)
+
+abbrev pub TrailBegins : Type 0
+TrailBegins = (xs ys : List Tell) → Begins xs ys → Begins (trail_of xs) (trail_of ys)
+
+abbrev pub TellsBegin : Type 0
+TellsBegin = (xs ys : List Stamped) → Begins xs ys → Begins (tells xs) (tells ys)
 
 -- ---- What a run leaves behind
 
@@ -69,6 +92,12 @@ ProgramsAdvance = (g : ℕ) (frames : List (List ℕ)) (m : ℕ) (functions : Li
 abbrev pub AllCame : Type 0
 AllCame = (g : ℕ) (code : FCode) (globals : List Block) (frames : List (List ℕ)) (input : List ℕ) (m : ℕ) →
     let w = (point_of (flat_run g code globals frames input m)).world in AllBy w.time w.told
+
+-- code without loops and calls takes no longer than all its charges together
+abbrev pub StraightTakes : Type 0
+StraightTakes =
+    (g : ℕ) (call : Calls) (m frame : ℕ) (xs : FSteps) → AreStraight xs → (u : FPoint)
+    → (point_of (act_all g call m frame xs u)).world.time ≤ u.world.time + charges xs
 
 -- ---- More turns and calls
 
@@ -118,3 +147,13 @@ abbrev pub SpanSequenceSpans : Type 0
 SpanSequenceSpans =
     (g : ℕ) → 1 ≤ g → g ≤ 24 → (call : Calls) (m frame p n q line d s e : ℕ) → SpanApart p n q line d s e → (u : FPoint)
     → Spans g m frame call p n q line d s e u (act_all g call m frame (span_sequence g p n q line d s e) u)
+
+-- ---- Sequences among other steps
+
+-- A sequence whose values are apart is found where it stands, whatever comes after it.
+abbrev pub SequencesAreFound : Type 0
+SequencesAreFound = (g : ℕ) (sequence : Sequence) (rest : FSteps) → is_apart sequence ≡ true → sequence_at g (sequence_steps g sequence +++ rest) ≡ Some sequence
+
+-- What is found begins the steps, and its values are apart.
+abbrev pub FoundAreSequences : Type 0
+FoundAreSequences = (g : ℕ) (a : FSteps) (sequence : Sequence) → sequence_at g a ≡ Some sequence → (starts (sequence_steps g sequence) a ≡ true) × (is_apart sequence ≡ true)

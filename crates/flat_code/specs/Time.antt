@@ -3,7 +3,7 @@
 -- words, computes and stores one, and where each branch and jump has its longest form (a branch over an AUIPC and a
 -- JALR, or these two alone). No step's own code has a loop, so each of its instructions is done at most once.
 use Rattle.std.specs.Prelude.{ℕ, ◌+◌, ◌*◌}
-use Rattle.flat_code.specs.Code.{FStep, FFunction}
+use Rattle.flat_code.specs.Code.{FStep, FSteps, FFunction}
 
 -- the instructions of a step's own code, without those of the steps in it
 abbrev pub charge : FStep → ℕ
@@ -43,3 +43,32 @@ call_charge f = function_charge + 3 * f.values
 -- the start code: it calls the first function, and exits with what that returns
 abbrev pub start_charge : ℕ
 start_charge = 8
+
+-- ---- Code without loops and calls
+
+-- the steps have neither loops nor calls
+abbrev mutual
+  pub IsStraight : FStep → Type 0
+  IsStraight (FStep.If cond first second) = AreStraight first × AreStraight second
+  IsStraight (FStep.Block body) = AreStraight body
+  IsStraight (FStep.Loop body) = ⊥
+  IsStraight (FStep.Inner body) = ⊥
+  IsStraight (FStep.Call to function args) = ⊥
+  IsStraight s = Unit {0}
+
+  pub AreStraight : FSteps → Type 0
+  AreStraight FSteps.none = Unit {0}
+  AreStraight (FSteps.more s rest) = IsStraight s × AreStraight rest
+
+-- all charges of steps, each counted once
+abbrev mutual
+  pub charges_in : FStep → ℕ
+  charges_in (FStep.If cond first second) = charges first + charges second
+  charges_in (FStep.Block body) = charges body
+  charges_in (FStep.Loop body) = charges body
+  charges_in (FStep.Inner body) = charges body
+  charges_in s = 0
+
+  pub charges : FSteps → ℕ
+  charges FSteps.none = 0
+  charges (FSteps.more s rest) = charge s + charges_in s + charges rest

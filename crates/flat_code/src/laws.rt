@@ -1,5 +1,5 @@
 //! What holds of flat code, for what stands on it.
-ghost use Rattle.flat_code.specs.Laws.{TellsAppend, OutputAppends, TrailAppends, LiveAppends, EverAppends, SafeAppends, StepsAdvance, ProgramsAdvance, AllCame, MoreTurnsExtend, MoveSequenceMoves, LoadSequenceLoads, LoadSequenceStops, SpanSequenceSpans};
+ghost use Rattle.flat_code.specs.Laws.{TellsAppend, OutputAppends, TrailAppends, LiveAppends, EverAppends, SafeAppends, AllByLater, AllByAppends, FrontsCompare, OutputBegins, TrailBegins, TellsBegin, StepsAdvance, ProgramsAdvance, AllCame, StraightTakes, MoreTurnsExtend, MoveSequenceMoves, LoadSequenceLoads, LoadSequenceStops, SpanSequenceSpans, SequencesAreFound, FoundAreSequences};
 ghost use Rattle.flat_code.specs.Examples.{ExamplesRun, ExamplesWeigh};
 
 /// What was told in two lists, without its times.
@@ -32,6 +32,36 @@ pub fn safe_appends()
     ensures { SafeAppends }
 {}
 
+/// What came by a time came by every later one.
+pub fn all_by_later()
+    ensures { AllByLater }
+{}
+
+/// Two lists came by a time exactly if each did.
+pub fn all_by_appends()
+    ensures { AllByAppends }
+{}
+
+/// Of two fronts of one list one begins with the other.
+pub fn fronts_compare()
+    ensures { FrontsCompare }
+{}
+
+/// The output of a list begins with that of its front.
+pub fn output_begins()
+    ensures { OutputBegins }
+{}
+
+/// The trail of a list begins with that of its front.
+pub fn trail_begins()
+    ensures { TrailBegins }
+{}
+
+/// What a list tells begins with what its front tells.
+pub fn tells_begin()
+    ensures { TellsBegin }
+{}
+
 /// Steps only add to what was told, from any point, and take time.
 pub fn steps_advance()
     ensures { StepsAdvance }
@@ -45,6 +75,11 @@ pub fn programs_advance()
 /// All that a run has told came by its time.
 pub fn all_came()
     ensures { AllCame }
+{}
+
+/// Code without loops and calls takes no longer than all its charges together.
+pub fn straight_takes()
+    ensures { StraightTakes }
 {}
 
 /// With more turns and calls a run that has ended is the same, and one that is cut goes on.
@@ -74,6 +109,16 @@ pub fn span_sequence_spans()
 /// A load sequence whose access ends the run ends it so.
 pub fn load_sequence_stops()
     ensures { LoadSequenceStops }
+{}
+
+/// A sequence whose values are apart is found where it stands.
+pub fn sequences_are_found()
+    ensures { SequencesAreFound }
+{}
+
+/// What is found begins the steps, and its values are apart.
+pub fn found_are_sequences()
+    ensures { FoundAreSequences }
 {}
 
 /// What some small programs do.

@@ -14,6 +14,10 @@ pub mod BlockLists
 pub mod LiveLists
 pub mod CallChain
 pub mod Changes
+pub mod EventLists
+pub mod JumpsTold
+pub mod EventsTold
+pub mod RunTells
 pub mod BlockMemory
 pub mod TableMemory
 pub mod Starts

@@ -11,16 +11,16 @@ use Rattle.rv_machine.specs.Runs.{Ran, Shown, Stops, FaultCause, fault_of, stop_
 use Rattle.rv_machine.proofs.Steps.{steps_none, steps_more, steps_add, steps_stay}
 use Rattle.rv_machine.proofs.Outside.{ran_quiet, ran_same}
 
-output_append : (a b : List Tell) → output_of (a ++ b) ≡ output_of a ++ output_of b
+pub output_append : (a b : List Tell) → output_of (a ++ b) ≡ output_of a ++ output_of b
 output_append [] b = refl
 output_append (Output x ∷ a) b = ap (λ (l : List ℕ). x ∷ l) (output_append a b)
 output_append (Happens event ∷ a) b = output_append a b
 
-pub ran_none : (s : State) (o : Shown) → Ran (steps 0) s o s o
+unfoldable pub ran_none : (s : State) (o : Shown) → Ran (steps 0) s o s o
 ran_none s o = ran_quiet (steps 0) s s o (λ left told. steps_none (record { machine = s; left = left; told = told }))
 
 -- one run and then another
-pub ran_then : (f g : World → World) (s : State) (o : Shown) (s1 : State) (o1 : Shown) (s2 : State) (o2 : Shown) → Ran f s o s1 o1 → Ran g s1 o1 s2 o2 → Ran (λ w. g (f w)) s o s2 o2
+unfoldable pub ran_then : (f g : World → World) (s : State) (o : Shown) (s1 : State) (o1 : Shown) (s2 : State) (o2 : Shown) → Ran f s o s1 o1 → Ran g s1 o1 s2 o2 → Ran (λ w. g (f w)) s o s2 o2
 ran_then f g s o s1 o1 s2 o2 p q = record {
   taken = p.taken ++ q.taken;
   tells = p.tells ++ q.tells;
@@ -41,7 +41,7 @@ ran_then f g s o s1 o1 s2 o2 p q = record {
 }
 
 -- k instructions and one more
-pub ran_more : (k : ℕ) (s : State) (o : Shown) (s1 : State) (o1 : Shown) (s2 : State) (o2 : Shown) → Ran (steps k) s o s1 o1 → Ran step s1 o1 s2 o2 → Ran (steps (k + 1)) s o s2 o2
+unfoldable pub ran_more : (k : ℕ) (s : State) (o : Shown) (s1 : State) (o1 : Shown) (s2 : State) (o2 : Shown) → Ran (steps k) s o s1 o1 → Ran step s1 o1 s2 o2 → Ran (steps (k + 1)) s o s2 o2
 ran_more k s o s1 o1 s2 o2 p q =
     let both = ran_then (steps k) step s o s1 o1 s2 o2 p q in
     ran_same (λ w. step (steps k w)) (steps (k + 1)) s o s2 o2 both (λ rest told e. steps_more k (record { machine = s; left = both.taken ++ rest; told = told }))

@@ -15,6 +15,7 @@ use Rattle.rv_machine.specs.Live.{global_blocks}
 use Rattle.rv_machine.specs.Machine.{step, steps, machine_after}
 use Rattle.size_table.specs.Memory.{half_at, word_at, written_at, bytes_of_words, Stand}
 use Rattle.bb_watch.specs.Safety.{Each, IsAccessSafe, IsControlSafe}
+use Rattle.rv_machine.specs.Runs.{Shown, Ran}
 use Rattle.rv_machine.specs.Safety.{IsContained, IsSafe, ContainedRun, SafeRun}
 use Rattle.rv_machine.specs.Start.{start_memory}
 use Rattle.rv_machine.specs.State.{Core, State, register_of}
@@ -173,3 +174,17 @@ ContainedAtEnd = (image : Image) (input : List ℕ) (n : ℕ) → IsImage image 
 -- a run that is safe at its end is safe
 abbrev pub SafeAtEnd : Type 0
 SafeAtEnd = (image : Image) (input : List ℕ) (n : ℕ) → IsImage image → All IsByte image.initial → All IsByte input → IsSafe (slot_of image) (global_blocks image) (machine_after image input n) → SafeRun (slot_of image) image input n
+
+-- ---- Runs that are put together outside
+
+-- a run of one instruction tells what the state before it gives
+abbrev pub StepRunTells : Type 0
+StepRunTells = (s : State) (o : Shown) (s' : State) (o' : Shown) (p : Ran step s o s' o') → p.tells ≡ tells_of s
+
+-- a run of no instruction tells nothing
+abbrev pub RunBegins : Type 0
+RunBegins = (s : State) (o : Shown) → (p : Ran (steps 0) s o s o) × (p.tells ≡ [])
+
+-- a run goes on by an instruction, and tells what both told
+abbrev pub RunGoesOn : Type 0
+RunGoesOn = (k : ℕ) (s : State) (o : Shown) (s1 : State) (o1 : Shown) (s2 : State) (o2 : Shown) (p : Ran (steps k) s o s1 o1) (q : Ran step s1 o1 s2 o2) → (r : Ran (steps (k + 1)) s o s2 o2) × (r.tells ≡ p.tells ++ q.tells)

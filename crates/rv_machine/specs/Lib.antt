@@ -10,5 +10,6 @@ pub mod Safety
 pub mod Seen
 pub mod Formed
 pub mod Changes
+pub mod Events
 pub mod Laws
 pub mod Examples

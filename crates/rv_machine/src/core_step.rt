@@ -1,5 +1,5 @@
 //! The registers, the program counter and the memory, and the instructions on them.
-ghost use Rattle.std.specs.Prelude.{◌≡◌, ◌+◌, ◌*◌, ◌/◌, ◌%◌, ◌<◌, ◌≤◌, ◌^◌, Bool, List, [], ◌∷◌, length, slice_index, IfOk};
+ghost use Rattle.std.specs.Prelude.{◌≡◌, ◌+◌, ◌*◌, ◌/◌, ◌%◌, ◌<◌, ◌≤◌, ◌^◌, Bool, List, [], ◌∷◌, length, slice_index, IfOk, IfSome};
 ghost use Rattle.std.specs.Int.{to_le_bytes, w16, w32};
 ghost use Rattle.rv_code.specs.Bits.{extended};
 ghost use Rattle.rv_code.specs.Code.{Fits};
@@ -15,8 +15,12 @@ use bb_words::word::Word;
 use rv_code::decode::decode;
 use rv_code::instr::Instr;
 use rv_image::image::Image;
+use size_table::memory_map::{GLOBALS_START, TABLE_START, TEXT_START};
 use std::alloc::{AllocError, Global};
 use std::marker::Model;
+
+// Where the size table's bytes for the global blocks begin: it has one for 16 bytes.
+const FIRST_ENTRY: usize = 0x2A_0000;
 
 /// The machine without its environment.
 #[derive(Drop)]
@@ -43,7 +47,7 @@ impl Core {
     ghost use Rattle.size_table.specs.Made.{made, ended};
     ghost use Rattle.size_table.specs.Memory.{half_at, word_at};
     ghost use Rattle.rv_machine.specs.State.{register_of, set_register, next, gives, with_memory};
-    ghost use Rattle.rv_machine.specs.Instruction.{address, loads, stores, jumps, links, branches, effect, core_step, Does};
+    ghost use Rattle.rv_machine.specs.Instruction.{address, loads, stores, jumps, links, branches, effect, core_step, instruction_at, Does};
     ghost use Rattle.rv_machine.specs.Start.{start};
     ghost use Rattle.rv_machine.specs.State.{Frames};
     ghost use Rattle.rv_machine.specs.Machine.{steps};
@@ -56,12 +60,16 @@ impl Core {
         ensures { IfOk result (λ core. core ≡ (start image.now).core) }
     {
         let mut memory = zeros(alloc)?;
-        write_words(&mut memory, 0x1000, image.text.as_slice());
-        write_table(&mut memory, 0x2A_0000, image.globals.as_slice());
-        write_bytes(&mut memory, 0xA0_0000, image.initial.as_slice());
+        write_words(&mut memory, TEXT_START as usize, image.text.as_slice());
+        write_table(&mut memory, FIRST_ENTRY, image.globals.as_slice());
+        write_bytes(
+            &mut memory,
+            GLOBALS_START as usize,
+            image.initial.as_slice(),
+        );
         let mut registers = vec![in alloc; 0u32; 32]?;
-        registers[2] = 0xA0_0000;
-        registers[31] = 0x20_0000;
+        registers[2] = GLOBALS_START;
+        registers[31] = TABLE_START;
         Ok(Core {
             pc: image.entry,
             registers,
@@ -115,7 +123,7 @@ impl Core {
         ensures does { Does self.old self.new result (core_step self.old) }
         ensures in_text { result ≡ Effect.Asked → self.new.pc < 2097152 }
     {
-        if self.pc < 0x1000 || self.pc >= 0x20_0000 {
+        if self.pc < TEXT_START || self.pc >= TABLE_START {
             return Effect::Trapped {
                 kind: TrapKind::Fetch,
             };
@@ -126,6 +134,15 @@ impl Core {
             },
             Some(instr) => self.execute(instr),
         }
+    }
+
+    /// The instruction at the program counter, if its word is that of one.
+    pub(crate) fn instruction(&self) -> Option<Instr>
+        requires { self.now.pc < TABLE_START }
+        ensures value { result ≡ instruction_at self.now }
+        ensures fits { IfSome result Fits }
+    {
+        decode(Word(word_at(&self.memory, self.pc as usize)))
     }
 
     // The table of the instructions, a row for each.
@@ -236,7 +253,7 @@ impl Core {
     }
 
     // A register plus an immediate.
-    fn address(&self, rs1: u8, imm: u32) -> u32
+    pub(crate) fn address(&self, rs1: u8, imm: u32) -> u32
         requires { rs1 < 32 }
         ensures { result ≡ address self.now rs1 imm }
     {
@@ -272,14 +289,12 @@ impl Core {
         requires in_text { self.old.pc < 2097152 }
         ensures { Does self.old self.new result (links rd to self.old) }
     {
-        if to % 4 != 0 {
-            return Effect::Trapped {
-                kind: TrapKind::Fetch,
-            };
+        let next = self.pc + 4;
+        let effect = self.jump(to);
+        if effect == Effect::Went {
+            self.set(rd, next);
         }
-        self.set(rd, self.pc + 4);
-        self.pc = to;
-        Effect::Went
+        effect
     }
 
     fn branch(&mut self, taken: bool, imm: u32) -> Effect

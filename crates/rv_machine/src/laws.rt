@@ -1,5 +1,5 @@
 //! The laws of the machine, for what stands on it.
-ghost use Rattle.rv_machine.specs.Laws.{EndingStays, StepTells, ToldGrows, FieldsFit, InstructionDone, WordReadBack, OthersStay, WordsStand, StepsAdd, CoreStays, FormStays, RunsAreFormed, LiveAreLaidOut, OnlyToldChange, MadeIsZero, TextStays, TextStands, TableFollows, RunsHaveTable, TableIsKept, SafeAtEnd, ContainedAtEnd, SafeAccessesAreHigh, ByteReadBack, HalfReadBack, WordAtIndex, CallsKeep, PcIsAligned, MemoryStarts};
+ghost use Rattle.rv_machine.specs.Laws.{EndingStays, StepTells, ToldGrows, FieldsFit, InstructionDone, WordReadBack, OthersStay, WordsStand, StepsAdd, CoreStays, FormStays, RunsAreFormed, LiveAreLaidOut, OnlyToldChange, MadeIsZero, TextStays, TextStands, TableFollows, RunsHaveTable, TableIsKept, SafeAtEnd, ContainedAtEnd, SafeAccessesAreHigh, ByteReadBack, HalfReadBack, WordAtIndex, CallsKeep, PcIsAligned, MemoryStarts, StepRunTells, RunBegins, RunGoesOn};
 
 /// A machine that has ended stays as it is.
 pub fn ending_stays()
@@ -220,3 +220,18 @@ pub fn safe_at_end()
     buddy_heap::laws::place_is_least();
     size_table::laws::exponent_is_least();
 }
+
+/// A run of one instruction tells what the state before it gives, so a runner outside can read it before (`Machine::events`).
+pub fn step_run_tells()
+    ensures { StepRunTells }
+{}
+
+/// A run of no instruction tells nothing.
+pub fn run_begins()
+    ensures { RunBegins }
+{}
+
+/// A run goes on by an instruction, and tells what both told.
+pub fn run_goes_on()
+    ensures { RunGoesOn }
+{}

@@ -6,14 +6,17 @@ ghost use Rattle.rv_machine.specs.Environment.{kind_of};
 ghost use Rattle.rv_machine.specs.Runs.{stop_at};
 
 use crate::core_step::Core;
+use crate::events::{Events, Told};
 use crate::frames::{Entry, Frames};
 use crate::stop::{Effect, Fault, Halt, Stop};
 use bb_outside::{Sink, SinkFailed, Source, SourceFailed};
+use bb_watch::event::Event;
 use bb_words::kinds::{ReportKind, TrapKind};
 use bb_words::word::Word;
 use buddy_heap::heap::Heap;
 use core::mem::replace_with;
 use rv_image::image::Image;
+use size_table::calls::{ENTER, EXIT, FREE, GETCHAR, LEAVE, MALLOC, PUTCHAR, REPORT};
 use size_table::memory_map::MOST_BYTES;
 use size_table::padding::exponent;
 use std::alloc::{AllocError, Global};
@@ -40,7 +43,10 @@ impl Machine {
     ghost use Rattle.rv_machine.specs.declared.stop.Halt.TheVariants.{Trapped};
     ghost use Rattle.rv_machine.specs.State.{register_of, halted};
     ghost use Rattle.rv_machine.specs.Instruction.{Asks, core_step};
-    ghost use Rattle.rv_machine.specs.Environment.{calls, exits, gets, puts, reported, reports, enters, leaves, mallocs, frees};
+    ghost use Rattle.rv_machine.specs.Environment.{calls, exits, gets, puts, reported, reports, enters, leaves, mallocs, frees, malloc_events, free_events};
+    ghost use Rattle.bb_watch.specs.Told.{events_of};
+    ghost use Rattle.rv_machine.specs.Laws.{tells_of, call_tells};
+    ghost use Rattle.rv_machine.specs.Machine.{step};
     ghost use Rattle.rv_machine.specs.Start.{start};
     ghost use Rattle.rv_machine.specs.Runs.{Answered, Stepped, Advanced, Stops, FaultCause, fault_of, stop_of};
 
@@ -107,7 +113,93 @@ impl Machine {
         self.core.byte(at)
     }
 
-    fn stop(&self) -> Stop
+    /// Executes the next instruction. A machine that has ended stays as it is. At a fault the machine stands as it did, and
+    /// a further step does the environment call again that failed.
+    ///
+    /// `run` is faster. A step is for a runner that also reads what each instruction tells (`events`).
+    pub fn step<I: Source, O: Sink>(&mut self, input: &mut I, output: &mut O) -> Option<Fault>
+        ensures stepped { Stepped result step
+            self.old (record { left = I.left input.old; is_over = I.is_over input.old; written = O.written output.old })
+            self.new (record { left = I.left input.new; is_over = I.is_over input.new; written = O.written output.new }) }
+        ensures cause { FaultCause result (I.faults input.old) (I.faults input.new) (O.faults output.old) (O.faults output.new) }
+    {
+        if self.ended.is_some() {
+            return None;
+        }
+        let answer = self.advance(1, input, output);
+        answer.1
+    }
+
+    /// The events that the next instruction tells, in order, with no memory taken: at most one, or those of the blocks that
+    /// an environment call makes or ends. An instruction that may fault tells none.
+    pub fn events(&self) -> Events<'_>
+        ensures { result ≡ events_of (tells_of self.now) }
+    {
+        if self.ended.is_some() {
+            return Events::none();
+        }
+        bb_watch::laws::events_happen();
+        match self.core.told() {
+            Told::Nothing => return Events::none(),
+            Told::Happens(event) => return Events::one(event),
+            Told::Asks => {}
+        }
+        self.call_events()
+    }
+
+    // The events of the environment call whose number is in x17.
+    fn call_events(&self) -> Events<'_>
+        ensures { result ≡ events_of (call_tells self.now) }
+    {
+        bb_watch::laws::events_happen();
+        let number = self.core.register(17);
+        if number == MALLOC {
+            return self.malloc_events();
+        }
+        if number == FREE {
+            return self.free_events();
+        }
+        if number == ENTER {
+            return self.frames.entering(self.core.register(10));
+        }
+        if number == LEAVE {
+            return self.frames.leaving(self.core.register(10));
+        }
+        Events::none()
+    }
+
+    // The event of the block that is made for the size in x10.
+    #[tactic(auto, unfolding(crate::specs::Environment::new_block))]
+    fn malloc_events(&self) -> Events<'_>
+        ensures { result ≡ malloc_events self.now }
+    {
+        let size = self.core.register(10);
+        if size > MOST_BYTES {
+            return Events::none();
+        }
+        let exponent = exponent(size);
+        match self.heap.place(exponent) {
+            Some(at) => Events::one(Event::Made { at, exponent }),
+            None => Events::none(),
+        }
+    }
+
+    // The event of the block that ends, which begins at x10.
+    fn free_events(&self) -> Events<'_>
+        ensures { result ≡ free_events self.now }
+    {
+        let at = self.core.register(10);
+        if at == 0 {
+            return Events::none();
+        }
+        match self.heap.exponent_at(at) {
+            Some(exponent) => Events::one(Event::Ended { at, exponent }),
+            None => Events::none(),
+        }
+    }
+
+    /// Why a run of no further instruction comes back: `OutOfSteps` where the machine has not ended.
+    pub fn stop(&self) -> Stop
         ensures { result ≡ stop_of self.now.ending }
     {
         match self.ended {
@@ -158,35 +250,35 @@ impl Machine {
         ensures cause { FaultCause result (I.faults input.old) (I.faults input.new) (O.faults output.old) (O.faults output.new) }
     {
         match self.core.register(17) {
-            1 => {
+            EXIT => {
                 self.exit();
                 None
             }
-            2 => match self.getchar(input) {
+            GETCHAR => match self.getchar(input) {
                 Ok(()) => None,
                 Err(_) => Some(Fault::Read),
             },
-            3 => match self.putchar(output) {
+            PUTCHAR => match self.putchar(output) {
                 Ok(()) => None,
                 Err(_) => Some(Fault::Write),
             },
-            4 => {
+            MALLOC => {
                 self.malloc();
                 None
             }
-            5 => {
+            FREE => {
                 self.free();
                 None
             }
-            6 => {
+            REPORT => {
                 self.report();
                 None
             }
-            7 => {
+            ENTER => {
                 self.enter();
                 None
             }
-            8 => {
+            LEAVE => {
                 self.leave();
                 None
             }

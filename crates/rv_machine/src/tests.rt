@@ -5,6 +5,7 @@ use crate::machine::Machine;
 use crate::stop::Stop;
 use bb_outside::mem_sink::MemSink;
 use bb_outside::mem_source::MemSource;
+use bb_watch::event::Event;
 use bb_words::kinds::{ReportKind, TrapKind};
 use bb_words::list::List;
 use rv_image::image::Image;
@@ -342,5 +343,27 @@ fn runs_in_pieces(rt: HostRuntime) -> Result<(), Fail> {
     assert_eq!(rt; machine.run(5, &mut input, &mut output), Stop::Exited(65));
     assert_eq!(rt; machine.byte(0x1000), 0x93);
     assert_eq!(rt; machine.pc(), 0x1018);
+    Ok(())
+}
+
+#[test]
+fn tells_events_before_a_step(rt: HostRuntime) -> Result<(), Fail> {
+    let alloc = rt.alloc();
+    let mut input = MemSource::new(alloc, b"", &[])?;
+    let mut output = MemSink::new(alloc, 10, &[])?;
+    let words = [
+        0x0070_0893, // addi x17, x0, 7
+        0x0000_0073, // ecall
+    ];
+    let made = Event::Made {
+        at: 0xFF_FFE0,
+        exponent: 5,
+    };
+    let mut machine = Machine::new(alloc, &image(alloc, &words)?)?;
+    let _fault = machine.step(&mut input, &mut output);
+    assert_eq!(rt; machine.events().next(), Some(made));
+    let _fault = machine.step(&mut input, &mut output);
+    assert_eq!(rt; machine.register(10).0, 0xFF_FFE0);
+    assert_eq!(rt; machine.stop(), Stop::OutOfSteps);
     Ok(())
 }

@@ -32,8 +32,8 @@ access_in size k z None w = outside Dead w
 access_in size k z (Some o) w = if o.live then access_live size k o z w else outside Dead w
 
 -- The object and the place in it that an access of so many bytes finds. In this order: the null pointer traps; a dead
--- object is outside; so does a pointer trap that does not point into its padded block, and one to no multiple of the
--- size; and bytes past the object's end are outside.
+-- object is outside; a pointer that does not point into the padded block of its object traps; so does one to no multiple
+-- of the size; and bytes past the object's end are outside.
 abbrev pub access : (size : ℕ) → Pointer → World → Does (ℕ × ℕ)
 access size Null w = Ends (Trapped trap.Null) w
 access size (To k z) w = access_in size k z (object_at w k) w

@@ -1,4 +1,4 @@
--- What is done with ranges of bytes: copies (C11 6.5.16.1 p3, 7.24.2.1), sets (7.24.6.1) and initializers (6.7.9).
+-- What is done with ranges of bytes: copies (C11 6.5.16.1 p2, 7.24.2.1), sets (7.24.6.1) and initializers (6.7.9).
 use Rattle.std.specs.Prelude.{ℕ, zero, suc, ◌+◌, ◌-◌, ◌%◌, nat_lt, if◌then◌else◌, List, Option, Some, None}
 use Rattle.size_table.specs.declared.memory_map.TheConstants.{MOST_BYTES}
 use Rattle.bb_words.specs.Answers.{Goes, Ends, and_then}
@@ -34,7 +34,7 @@ abbrev pub copied_to : (n : ℕ) → (source target : ℕ × ℕ) → World → 
 copied_to n a b w = Goes tt (with_bytes n (copied n w.cells a.0 a.1 b.0 b.1) w)
 
 -- n bytes are copied from one pointer to another: the span of the source, then that of the target, and then byte by byte
--- upwards, parts of pointers included. No bytes look at no pointer.
+-- upwards, parts of pointers included. A copy of no bytes looks at neither pointer.
 abbrev pub copy : (g site_source site_target line n : ℕ) → (target source : Pointer) → World → Does Unit
 copy g a b line zero q r w = Goes tt w
 copy g a b line (suc n) q r w =

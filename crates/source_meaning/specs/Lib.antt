@@ -13,3 +13,10 @@ pub mod Operators
 pub mod Meaning
 pub mod Runs
 pub mod Places
+pub mod Examples
+pub mod ExamplesMoves
+pub mod ExamplesMemory
+pub mod ExamplesCopies
+pub mod ExamplesCalls
+pub mod ExamplesAccounts
+pub mod Laws

@@ -279,7 +279,7 @@ module _ (g : ℕ) (p : CProgram) (call : Calls) (m : ℕ) (locals : List CLocal
     execute (CStmt.Return at None) n c = Goes (Gave (Num 0)) (begin at c)
     execute (CStmt.Return at (Some e)) n c = and_then (run g p call e n ItsValue (begin at c)) (λ x. using_value x (λ v. Goes (Gave v)))
 
-    -- the items of a block, one after another (6.8.2 p3)
+    -- the items of a block, one after another (6.8 p2)
     pub execute_all : CStmts → (site : ℕ) → State → Runs Signal
     execute_all CStmts.none n c = Goes Falls c
     execute_all (CStmts.more x xs) n c = and_then (execute x n c) (λ s. then_next s (execute_all xs (n + sites_of_stmt p.structs x)))

@@ -1,6 +1,6 @@
 -- How a pointer is moved. C11 6.5.6 p8 lets a pointer move within its object and one past its end. Here it may also move
--- through the padding of its object, and less than half a slot outside of it: the result of any other move is reported, so
--- a run never goes on with it. A slot has 2 ^ g bytes.
+-- through the padding of its object, to at most half a slot below it, and to less than half a slot past its padding: any
+-- other move is reported, so a run never goes on with its result. A slot has 2 ^ g bytes.
 use Rattle.std.specs.Prelude.{ℕ, ◌+◌, ◌-◌, ◌^◌, nat_lt, Bool, if◌then◌else◌, Option, Some, None, ℤ, pos, negsuc, ◌+ℤ◌}
 use Rattle.bb_words.specs.Answers.{Goes, Ends}
 use Rattle.bb_words.specs.declared.kinds.ReportKind.TheVariants.{Bounds}

@@ -32,7 +32,8 @@ use Rattle.source_meaning.specs.Worlds.{World, Does, outside, with_number, with_
 use Rattle.source_meaning.specs.Moves.{move, distance}
 use Rattle.source_meaning.specs.Comparisons.{same, ordered, elements_between, truth}
 use Rattle.source_meaning.specs.Copies.{copy}
-use Rattle.source_meaning.specs.Numbers.{fitted, calculated}
+use Rattle.c_typed.specs.Numbers.{fitted}
+use Rattle.source_meaning.specs.Numbers.{calculated}
 use Rattle.source_meaning.specs.Sites.{pointee}
 use Rattle.source_meaning.specs.States.{State, Runs, doing, giving, using_value, using_number, using_pointer, using_place, using_address, read, write, finish}
 
@@ -201,7 +202,7 @@ abbrev pub on_assign : List CStruct → (g site line : ℕ) → AssignOperator �
 on_assign structs g site line assign.Assign t u q x c = and_then (write t q x c) (λ r. Goes (Of r))
 on_assign structs g site line o t u q x c = on_compound structs g site line o t u q x c
 
--- 6.5.16.1 p3: a struct is copied from one place to another, and gives no value
+-- 6.5.16.1 p2: a struct is copied from one place to another, and here gives no value
 abbrev pub on_copy : (g site line size : ℕ) → (target source : Held) → State → Runs Held
 on_copy g site line size x y c =
     using_address x (λ q. using_address y (λ r c1.

@@ -1,0 +1,9 @@
+//! The parser of C: from tokens to the syntax tree.
+#![tactic(auto)]
+
+ghost use Rattle.c_parser.specs.Laws.{HasOneUnit};
+
+/// Tokens derive one tree of a file, whatever the limits on nesting.
+pub fn one_unit()
+    ensures { HasOneUnit }
+{}

@@ -1,4 +1,0 @@
-pub mod Rule
-pub mod Conversions
-pub mod Operators
-pub mod Views
