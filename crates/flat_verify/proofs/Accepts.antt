@@ -6,15 +6,15 @@ use Rattle.size_table.specs.Blocks.{Block}
 use Rattle.flat_code.specs.Code.{FStep, FSteps, FFunction, FCode}
 use Rattle.flat_code.specs.Recognized.{sequence_steps}
 use Rattle.flat_verify.specs.Items.{Item, Items, items_of, step_places, steps_places, places, all_places, first_place}
-use Rattle.flat_verify.specs.Facts.{Fact, Source, Setting, Here, untold, branch, here_after, is_among, source}
-use Rattle.flat_verify.specs.Chains.{Edges, fact_in, Spot, Lost}
+use Rattle.flat_verify.specs.Facts.{Fact, Setting, Here, untold, branch, here_after, is_among}
+use Rattle.flat_verify.specs.Chains.{Spot}
 use Rattle.flat_verify.specs.Breaks.{fits, is_plain, address, reads, operands, pointer, shared, AddressLost, ReadLost, BreaksInside, InsideStep, Inside, Breaks, BreaksAll}
-use Rattle.flat_verify.specs.Closed.{Known, Covers, holds, known_after, HandsOver as HandsArgs, ClosedOn}
-use Rattle.flat_verify.specs.Discipline.{params_in, setting, edges_in, edges, LostAt, function_fits, BreaksBy, BreaksAt, IsDisciplined}
-use Rattle.flat_verify.specs.Derivations.{Signs, address_known, all_own, FitStep, Fit, Good, Goods, at_start, GoodFunction, GoodProgram}
+use Rattle.flat_verify.specs.Closed.{Known, Covers, ClosedOn}
+use Rattle.flat_verify.specs.Discipline.{params_in, setting, edges_in, edges, LostAt, function_fits, BreaksBy}
+use Rattle.flat_verify.specs.Derivations.{Signs, address_known, all_own, FitStep, Fit, Good, Goods, at_start, GoodFunction}
 use Rattle.flat_verify.specs.Laws.{DerivationsAreAccepted}
 use Rattle.flat_verify.proofs.Least.{every_edge, least}
-use Rattle.flat_verify.proofs.Tables.{LeadsTo, HandsOver, Passes, nothing, yes_lt, no_lt, head, FitsIn, FitsAll, table, fits_all, agree_all, start_covers, closed_all}
+use Rattle.flat_verify.proofs.Tables.{Passes, nothing, yes_lt, no_lt, head, FitsIn, FitsAll, table, fits_all, agree_all, start_covers, closed_all}
 
 clash : (b : Bool) → b ≡ true → b ≡ false → ⊥
 clash b t f = true≢false (sym t ∙ f)
@@ -134,8 +134,8 @@ module _ (g : ℕ) (globals : List Block) (sg : Signs) (code : FCode) where
       let is : Items = items_of g fn.body in
       let inner : ℕ → Known = table g (S f) sg (sg.gives f) is [] untold d.known d.last (derived f fn d) 0 in
       agree_all g (S f) sg (sg.gives f) inner (table_of f fn d) is [] untold d.known d.last (derived f fn d) 0
-        (λ q lo hi. ap (λ t. cond t (inner q) nothing) (yes_lt q (all_places g is) (let z : q < all_places g is = omega (arith, hi) in z)))
-        (fits_all g (S f) sg (sg.gives f) is [] untold d.known d.last (derived f fn d) 0)
+      (λ q lo hi. ap (λ t. cond t (inner q) nothing) (yes_lt q (all_places g is) (let z : q < all_places g is = omega (arith, hi) in z)))
+      (fits_all g (S f) sg (sg.gives f) is [] untold d.known d.last (derived f fn d) 0)
 
   ends : (f : ℕ) (fn : FFunction) (d : G f fn) → Covers (table_of f fn d (all_places g (items_of g fn.body))) d.last
   ends f fn d =
@@ -171,22 +171,22 @@ module _ (g : ℕ) (globals : List Block) (sg : Signs) (code : FCode) where
         let is : Items = items_of g fn.body in
         let d : G f fn = each f fn e in
         every_edge g (Passes (S f) sg.gives f (λ k. T k 0) (table_of f fn d)) is untold 0 (all_places g is) []
-          (closed_all g (S f) sg f (λ k. T k 0) (λ k params is_. started_at k (slice_get fs k) refl params is_) (table_of f fn d) is [] untold d.known d.last (derived f fn d) 0 (all_places g is) [] (fits_table f fn d) (ends f fn d) tt)
-          h i a b x
+        (closed_all g (S f) sg f (λ k. T k 0) (λ k params is_. started_at k (slice_get fs k) refl params is_) (table_of f fn d) is [] untold d.known d.last (derived f fn d) 0 (all_places g is) [] (fits_table f fn d) (ends f fn d) tt)
+        h i a b x
 
     passing : (f : ℕ) (h : Here) (i : Item) (a : ℕ) (b : Option ℕ) → edges g globals fs f h i a b → Passes (S f) sg.gives f (λ k. T k 0) (T f) h i a b
     passing f h i a b e = passes_at f (slice_get fs f) refl h i a b e
 
     closed : ClosedOn S (edges g globals fs) (λ f x. true) sg.gives T
     closed = record {
-        cleans = λ f v m. refl;
-        owns = λ f v m. refl;
-        sources = λ f h i a b x y e ask is m. refl;
-        start = λ f x n ask. unspanned_at f (slice_get fs f) refl x n;
-        covers = λ f h i a b x e ask k. (passing f h i a (Some b) e).covers x k;
-        returns = λ k from h a b e. (passing k h (Item.Plain (FStep.Return from)) a b e).handed;
-        passes = λ f to k args h a b e. (passing f h (Item.Plain (FStep.Call to k args)) a b e).handed;
-      }
+      cleans = λ f v m. refl;
+      owns = λ f v m. refl;
+      sources = λ f h i a b x y e ask is m. refl;
+      start = λ f x n ask. unspanned_at f (slice_get fs f) refl x n;
+      covers = λ f h i a b x e ask k. (passing f h i a (Some b) e).covers x k;
+      returns = λ k from h a b e. (passing k h (Item.Plain (FStep.Return from)) a b e).handed;
+      passes = λ f to k args h a b e. (passing f h (Item.Plain (FStep.Call to k args)) a b e).handed;
+    }
 
     sound : (f p : ℕ) (x : Fact) → LostAt g globals fs f p x → T f p x ≡ false
     sound f p x l = least S (edges g globals fs) (λ k y. true) sg.gives T closed (Spot.At f p x) l refl

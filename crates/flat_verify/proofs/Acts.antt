@@ -1,32 +1,29 @@
 -- Accesses, and the calls of the environment, in safe worlds.
-use Rattle.std.proofs.Common.{◌≡◌, ◌≢◌, ◌⊎◌, ℕ, zero, suc, ◌+◌, ◌-◌, ◌*◌, ◌/◌, ◌%◌, ◌^◌, ◌<◌, ◌≤◌, List, [], ◌∷◌, ◌++◌, Option, Some, None, Bool, true, false, cond, inl, inr, refl, sym, ap, ◌∙◌, subst, ⊎_elim, arith, true≢false, pow_pos, pow-add, mul_assoc, nat_lt, nat_le}
-use Rattle.std.specs.Prelude.{◌==◌, ◌&&◌, ◌||◌, IsSome, is_some, if◌then◌else◌}
-use Rattle.std.proofs.Math.Nat.{mul-le-mul_left, le-div_iff_mul-le}
+use Rattle.std.proofs.Common.{◌≡◌, ◌≢◌, ◌⊎◌, ℕ, ◌+◌, ◌-◌, ◌*◌, ◌/◌, ◌%◌, ◌^◌, ◌<◌, ◌≤◌, List, [], ◌∷◌, Option, Some, None, Bool, true, false, inl, inr, refl, sym, ap, ◌∙◌, subst, ⊎_elim, arith, true≢false, pow_pos, pow-add, mul_assoc, nat_lt, nat_le}
+use Rattle.std.specs.Prelude.{◌==◌, is_some, if◌then◌else◌}
+use Rattle.std.proofs.Math.Nat.{mul-le-mul_left}
 use Rattle.std.proofs.lemmas.Bool.{cases_lt}
-use Rattle.std.proofs.lemmas.Bool.Decides.{nat_tests, eqb_tells}
+use Rattle.std.proofs.lemmas.Bool.Decides.{eqb_tells}
 use Rattle.std.proofs.lemmas.Nat.{div-add-mod'}
-use Rattle.bb_words.specs.Answers.{Answer, either}
+use Rattle.bb_words.specs.Answers.{Answer}
 use Rattle.bb_words.specs.Numbers.{all_ones}
 use Rattle.bb_words.specs.Steps.{size_of_width}
 use Rattle.bb_words.specs.declared.steps.Width.{Width}
 use Rattle.bb_words.specs.declared.steps.Width.TheVariants as width
 use Rattle.bb_words.specs.declared.kinds.TrapKind.TheVariants as trap
-use Rattle.bb_words.specs.declared.kinds.ReportKind.TheVariants as report
-use Rattle.bb_watch.specs.Live.{holder}
 use Rattle.bb_watch.specs.Safety.{LieIn, WasFreed}
-use Rattle.marked_ptr.specs.Marked.{owner_slot}
 use Rattle.marked_ptr.specs.Laws.{IsPlaced}
-use Rattle.size_table.specs.declared.memory_map.TheConstants.{TEXT_START, TABLE_START, HEAP_START, MEMORY_END, MOST_BYTES}
-use Rattle.size_table.specs.Blocks.{Block, block_at, holds, end_of, without}
+use Rattle.size_table.specs.declared.memory_map.TheConstants.{TEXT_START, TABLE_START, MEMORY_END, MOST_BYTES}
+use Rattle.size_table.specs.Blocks.{Block, block_at, end_of}
 use Rattle.size_table.specs.Pads.{exponent_of}
-use Rattle.buddy_heap.specs.Places.{place_of, block_from, IsPlaceOf}
+use Rattle.buddy_heap.specs.Places.{place_of, IsPlaceOf}
 use Rattle.flat_code.specs.Told.{Tell}
-use Rattle.flat_code.specs.World.{Words, with_word, FWorld, FPoint, point, put, tell, choose, Ending, Run, Way}
+use Rattle.flat_code.specs.World.{with_word, FWorld, FPoint, point, put, tell, choose, Ending, Run, Way}
 use Rattle.flat_code.specs.Accounts.{make, end, allot, malloc, heap_block, give_back, free}
 use Rattle.flat_code.specs.Safety.{live_after, ever_after, IsSafe}
 use Rattle.flat_code.specs.Run.{refusal, get, environment}
-use Rattle.flat_verify.proofs.Blocks.{both, le_of, lt_of, ge_of, gt_of, in_slots, ArePlaced, is_held, Within, holds_slot, holds_tells, holds_address, slot_addresses, holder_of, no_holder, lies_in_block, Good, good_address, plain_owner}
-use Rattle.flat_verify.proofs.Worlds.{Laws, ever, Holds, same_holds, ever_is, told_holds, Next, same_next, then_next, made_next, made_held, ended_next}
+use Rattle.flat_verify.proofs.Blocks.{le_of, lt_of, ge_of, gt_of, in_slots, ArePlaced, is_held, Within, holds_slot, holds_address, holder_of, no_holder, lies_in_block, Good, good_address, plain_owner}
+use Rattle.flat_verify.proofs.Worlds.{Laws, ever, Holds, ever_is, told_holds, Next, same_next, made_next, made_held, ended_next}
 
 -- ---- How accesses end
 
@@ -103,7 +100,6 @@ ends_within size a end k some aligned lt is =
         let z : size * k ≤ size * (a / size) = mul-le-mul_left size l in
         absurd (let n : ⊥ = omega (arith, z, at, up, comm size k, comm size (a / size)) in n)
 
-
 -- a slot has so many accesses of a width
 pub width_divides : (g : ℕ) → 2 ≤ g → (w : Width) → (k : ℕ) × (2 ^ g ≡ k * size_of_width w) × (0 < size_of_width w)
 width_divides g low w =
@@ -132,7 +128,7 @@ access_safe g live evers a size k write divides some are are_ever good positive 
         let at = holds_address g r.block a r.has in
         let s = in_slots g r.block.base r.block.exponent r.placed in
         let end : end_of r.block ≡ (s.c + s.k) * k * size =
-          (let z : end_of r.block ≡ s.c * 2 ^ g + s.k * 2 ^ g = omega (arith, s.from, s.bytes) in z) ∙ sum_of s.c s.k (2 ^ g) ∙ ap (λ w. (s.c + s.k) * w) divides ∙ times (s.c + s.k) k size in
+        (let z : end_of r.block ≡ s.c * 2 ^ g + s.k * 2 ^ g = omega (arith, s.from, s.bytes) in z) ∙ sum_of s.c s.k (2 ^ g) ∙ ap (λ w. (s.c + s.k) * w) divides ∙ times (s.c + s.k) k size in
         inl (lies_in_block g live a size are r.block r.is at.0 (ends_within size a (end_of r.block) ((s.c + s.k) * k) some aligned at.1 end))
     by false h =
         let b = good_block g evers a are_ever good positive small in
@@ -145,10 +141,10 @@ module _ (g : ℕ) (globals : List Block) (laws : Laws) (slot : 1 ≤ g) (high :
   -- what tells no block
   pub tell_next : (w : FWorld) (what : Tell) → Holds g globals w → live_after what w.live ≡ w.live → ever_after what (ever g globals w) ≡ ever g globals w → IsSafe g w.live (ever g globals w) what → Next g globals laws w (tell what w)
   tell_next w what h live same safe = record {
-      holds = told_holds g globals laws w (tell what w) w.time what refl h (sym live) safe (subst (ArePlaced g) (sym live) h.placed) (subst (ArePlaced g) (sym same) h.placed_ever)
+    holds = told_holds g globals laws w (tell what w) w.time what refl h (sym live) safe (subst (ArePlaced g) (sym live) h.placed) (subst (ArePlaced g) (sym same) h.placed_ever)
         (subst (λ l. Within g l (ever_after what (ever g globals w))) (sym live) (subst (Within g w.live) (sym same) h.within)) h.stack;
-      grows = λ s x. subst (λ l. is_held g l s ≡ true) (sym (ever_is g globals laws w (tell what w) w.time what refl ∙ same)) x;
-    }
+    grows = λ s x. subst (λ l. is_held g l s ≡ true) (sym (ever_is g globals laws w (tell what w) w.time what refl ∙ same)) x;
+  }
 
   -- a call of the environment has set a value to a word
   pub record EnvWent (u : FPoint) (to call : ℕ) (t : FPoint) : Type 0 where
@@ -185,7 +181,10 @@ module _ (g : ℕ) (globals : List Block) (laws : Laws) (slot : 1 ≤ g) (high :
         let placed : IsPlaced g p (exponent_of g size) = record { slot = slot; least = x.slot; most = top; aligned = k.0.aligned; low = (let z = k.0.low in omega (arith, z)); high = k.0.high } in
         let room : 0 < 2 ^ exponent_of g size = pow_pos (exponent_of g size) in
         record {
-          word = p; words = refl; next = made_next g globals laws u.world b h placed; stack = refl;
+          word = p;
+          words = refl;
+          next = made_next g globals laws u.world b h placed;
+          stack = refl;
           good = λ e. good_address g (ever g globals (make b u.world)) p (let z = k.0.high in omega (arith, z)) (made_held g globals laws u.world b (p / 2 ^ g) (holds_slot g b p placed (omega arith) (omega (arith, room))));
         }
 

@@ -1,5 +1,5 @@
 -- Where items begin, and claims of steps that are made stronger.
-use Rattle.std.proofs.Common.{◌≡◌, ◌⊎◌, ℕ, zero, suc, ◌+◌, ◌<◌, ◌≤◌, List, Bool, true, false, inl, inr, refl, arith}
+use Rattle.std.proofs.Common.{◌≡◌, ◌⊎◌, ℕ, zero, suc, ◌+◌, ◌<◌, ◌≤◌, List, Bool, true, false, inl, inr, arith}
 use Rattle.std.specs.Prelude.{◌==◌}
 use Rattle.bb_words.specs.Answers.{Answer, either}
 use Rattle.flat_code.specs.Code.{FStep, FSteps}
@@ -108,9 +108,10 @@ if_on_map (Answer.Ends e t) P Q f h = h
 
 turns_map : (n : ℕ) (body : FPoint → Run Way) (P Q : FPoint → Type 0) → ((t : FPoint) → P t → Q t) → (u : FPoint) → InTurns n body P u → InTurns n body Q u
 turns_map zero body P Q f u h = tt
-turns_map (suc n) body P Q f u h =
-    (f (point u.words (spend turn_charge u.world)) h.0,
-     if_on_map (body (point u.words (spend turn_charge u.world))) (InTurns n body P) (InTurns n body Q) (λ t k. turns_map n body P Q f t k) h.1)
+turns_map (suc n) body P Q f u h = (
+  f (point u.words (spend turn_charge u.world)) h.0,
+  if_on_map (body (point u.words (spend turn_charge u.world))) (InTurns n body P) (InTurns n body Q) (λ t k. turns_map n body P Q f t k) h.1,
+)
 
 either_map : (b : Bool) (A B A' B' : FPoint → Type 0) (u : FPoint) → (A u → A' u) → (B u → B' u) → either b A B u → either b A' B' u
 either_map true A B A' B' u f k h = f h
@@ -146,17 +147,19 @@ module _ (g : ℕ) (call : Calls) (m frame : ℕ) (inside : (function : ℕ) →
 
     map_steps : (xs : FSteps) (p : ℕ) (u : FPoint) → MapsBetween p (steps_places xs) → InSteps g call m frame inside C xs p u → InSteps g call m frame inside D xs p u
     map_steps FSteps.none p u f h = tt
-    map_steps (FSteps.more s rest) p u f h =
-        (f p s u (omega arith) (let z = one_place s in omega (arith, z)) h.0,
-         map_step s p (point u.words (spend (charge s) u.world)) (λ q x t low high. f q x t (omega (arith, low)) (omega (arith, high))) h.1,
-         if_on_map (act g call m frame s (point u.words (spend (charge s) u.world))) (InSteps g call m frame inside C rest (p + step_places s)) (InSteps g call m frame inside D rest (p + step_places s))
-           (λ t k. map_steps rest (p + step_places s) t (λ q x v low high. f q x v (omega (arith, low)) (omega (arith, high))) k) h.2)
+    map_steps (FSteps.more s rest) p u f h = (
+      f p s u (omega arith) (let z = one_place s in omega (arith, z)) h.0,
+      map_step s p (point u.words (spend (charge s) u.world)) (λ q x t low high. f q x t (omega (arith, low)) (omega (arith, high))) h.1,
+      if_on_map (act g call m frame s (point u.words (spend (charge s) u.world))) (InSteps g call m frame inside C rest (p + step_places s)) (InSteps g call m frame inside D rest (p + step_places s))
+          (λ t k. map_steps rest (p + step_places s) t (λ q x v low high. f q x v (omega (arith, low)) (omega (arith, high))) k) h.2,
+    )
 
   -- the claim of the first step, and those of the others
   pub strengthen : (xs : FSteps) (p : ℕ) (u : FPoint) → ((s : FStep) → C p s u → D p s u) → ((q : ℕ) (x : FStep) (t : FPoint) → p < q → q < p + steps_places xs → C q x t → D q x t) → InSteps g call m frame inside C xs p u → InSteps g call m frame inside D xs p u
   strengthen FSteps.none p u first f h = tt
-  strengthen (FSteps.more s rest) p u first f h =
-      (first s h.0,
-       map_step s p (point u.words (spend (charge s) u.world)) (λ q x t low high. f q x t low (omega (arith, high))) h.1,
-       if_on_map (act g call m frame s (point u.words (spend (charge s) u.world))) (InSteps g call m frame inside C rest (p + step_places s)) (InSteps g call m frame inside D rest (p + step_places s))
-         (λ t k. map_steps rest (p + step_places s) t (λ q x v low high. f q x v (let z = one_place s in omega (arith, z, low)) (omega (arith, high))) k) h.2)
+  strengthen (FSteps.more s rest) p u first f h = (
+    first s h.0,
+    map_step s p (point u.words (spend (charge s) u.world)) (λ q x t low high. f q x t low (omega (arith, high))) h.1,
+    if_on_map (act g call m frame s (point u.words (spend (charge s) u.world))) (InSteps g call m frame inside C rest (p + step_places s)) (InSteps g call m frame inside D rest (p + step_places s))
+        (λ t k. map_steps rest (p + step_places s) t (λ q x v low high. f q x v (let z = one_place s in omega (arith, z, low)) (omega (arith, high))) k) h.2,
+  )

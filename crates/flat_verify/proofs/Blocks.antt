@@ -1,15 +1,14 @@
 -- Blocks, the slots that they hold, and words that may be used as addresses.
-use Rattle.std.proofs.Common.{◌≡◌, ◌≢◌, ◌⊎◌, ℕ, zero, suc, ◌+◌, ◌-◌, ◌*◌, ◌/◌, ◌%◌, ◌^◌, ◌<◌, ◌≤◌, List, [], ◌∷◌, ◌++◌, Option, Some, None, Bool, true, false, cond, inl, inr, refl, sym, ap, ◌∙◌, subst, arith, true≢false, pow_pos, pow-add, mul_assoc, nat_lt, nat_le}
-use Rattle.std.specs.Prelude.{◌==◌, ◌&&◌, ◌||◌, IsSome, ◌↔◌}
-use Rattle.std.proofs.Math.Pow.{pow_mono}
+use Rattle.std.proofs.Common.{◌≡◌, ◌⊎◌, ℕ, ◌+◌, ◌-◌, ◌*◌, ◌/◌, ◌%◌, ◌^◌, ◌<◌, ◌≤◌, List, [], ◌∷◌, ◌++◌, Some, None, Bool, true, false, cond, inl, inr, refl, sym, ap, ◌∙◌, subst, arith, true≢false, pow_pos, pow-add, mul_assoc, nat_lt, nat_le}
+use Rattle.std.specs.Prelude.{◌&&◌, ◌||◌}
 use Rattle.std.proofs.Math.Nat.{mul-le-mul_left, le-div_iff_mul-le}
-use Rattle.std.proofs.lemmas.Bool.Decides.{nat_tests, leb_tells, eqb_tells}
+use Rattle.std.proofs.lemmas.Bool.Decides.{nat_tests}
 use Rattle.std.proofs.lemmas.Nat.{div-add-mod', mod_below}
 use Rattle.marked_ptr.specs.Marked.{owner_slot, in_memory}
 use Rattle.marked_ptr.specs.Laws.{IsPlaced, OwnedBy}
-use Rattle.bb_watch.specs.Live.{holder, owner}
+use Rattle.bb_watch.specs.Live.{holder}
 use Rattle.bb_watch.specs.Safety.{LieIn}
-use Rattle.size_table.specs.Blocks.{Block, block_at, holds, end_of}
+use Rattle.size_table.specs.Blocks.{Block, holds, end_of}
 use Rattle.size_table.specs.Table.{byte_of}
 
 -- ---- Tests
@@ -88,8 +87,8 @@ holds_slot g b a is low high =
     let s = in_slots g b.base b.exponent is in
     let r = slot_in (2 ^ g) s.c s.k a s.some (omega (arith, low, s.from)) (omega (arith, high, s.from, s.bytes)) in
     two (nat_le b.base (2 ^ g * (a / 2 ^ g))) (nat_le (2 ^ g * (a / 2 ^ g) + 2 ^ g) (end_of b))
-      (is_le b.base (2 ^ g * (a / 2 ^ g)) (omega (arith, r.0, s.from)))
-      (is_le (2 ^ g * (a / 2 ^ g) + 2 ^ g) (end_of b) (omega (arith, r.1, s.from, s.bytes)))
+    (is_le b.base (2 ^ g * (a / 2 ^ g)) (omega (arith, r.0, s.from)))
+    (is_le (2 ^ g * (a / 2 ^ g) + 2 ^ g) (end_of b) (omega (arith, r.1, s.from, s.bytes)))
 
 pub holds_tells : (g : ℕ) (b : Block) (s : ℕ) → holds g b s ≡ true → (b.base ≤ 2 ^ g * s) × (2 ^ g * s + 2 ^ g ≤ end_of b)
 holds_tells g b s h =
@@ -176,13 +175,19 @@ holder_of g (b ∷ bs) s are h = by (holds g b s) refl (λ k. holder_of g bs s a
   where
     by : (t : Bool) → holds g b s ≡ t → (is_held g bs s ≡ true → Holder g bs s) → Holder g (b ∷ bs) s
     by true k more = record {
-      block = b; is = ap (λ t. cond t (Some b) (holder g s bs)) k; placed = are.0; has = k;
+      block = b;
+      is = ap (λ t. cond t (Some b) (holder g s bs)) k;
+      placed = are.0;
+      has = k;
       byte = ap (λ t. cond t b.exponent (byte_of g bs s)) k;
     }
     by false k more =
         let r = more (sym (ap (λ t. t || is_held g bs s) k) ∙ h) in
         record {
-          block = r.block; is = ap (λ t. cond t (Some b) (holder g s bs)) k ∙ r.is; placed = r.placed; has = r.has;
+          block = r.block;
+          is = ap (λ t. cond t (Some b) (holder g s bs)) k ∙ r.is;
+          placed = r.placed;
+          has = r.has;
           byte = ap (λ t. cond t b.exponent (byte_of g bs s)) k ∙ r.byte;
         }
 

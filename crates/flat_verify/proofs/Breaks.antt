@@ -1,15 +1,15 @@
 -- What breaks the discipline by an exact table breaks it by chains, and the first place that is bad is one.
-use Rattle.std.proofs.Common.{◌≡◌, ◌<◌, ◌⊎◌, ℕ, suc, ◌+◌, List, [], ◌∷◌, inl, inr, Option, Some, None, Bool, true, false, refl, sym, ap, ◌∙◌, subst, arith}
+use Rattle.std.proofs.Common.{◌≡◌, ◌<◌, ◌⊎◌, ℕ, suc, ◌+◌, List, [], ◌∷◌, inl, inr, Option, Some, None, Bool, false, refl, sym, ap, ◌∙◌, arith}
 use Rattle.std.specs.Prelude.{slice_get}
 use Rattle.size_table.specs.Blocks.{Block}
 use Rattle.flat_code.specs.Code.{FStep, FSteps, FFunction, FCode}
 use Rattle.flat_code.specs.Recognized.{sequence_steps}
 use Rattle.flat_verify.specs.Items.{Item, Items, items_of, step_places, steps_places, places, all_places}
 use Rattle.flat_verify.specs.Facts.{Fact, Setting}
-use Rattle.flat_verify.specs.Chains.{fact_in, Spot, Lost}
+use Rattle.flat_verify.specs.Chains.{Spot}
 use Rattle.flat_verify.specs.Closed.{Known, Exact}
-use Rattle.flat_verify.specs.Breaks.{fits, address, reads, operands, pointer, pointer_use, shared, AddressLost, ReadLost, BreaksInside, InsideStep, Inside, Breaks, BreaksAll}
-use Rattle.flat_verify.specs.Discipline.{setting, edges, LostAt, BreaksBy, BreaksAt, Place, Before, FirstBad, FirstBreak}
+use Rattle.flat_verify.specs.Breaks.{address, reads, operands, pointer, shared, AddressLost, ReadLost, BreaksInside, InsideStep, Inside, Breaks, BreaksAll}
+use Rattle.flat_verify.specs.Discipline.{setting, edges, LostAt, BreaksBy, BreaksAt, Place, FirstBad, FirstBreak}
 use Rattle.flat_verify.specs.Laws.{BreaksByTable, ClosedTablesKnow, FirstIsOne, ExactTablesTell}
 use Rattle.flat_verify.proofs.Least.{lost_in, least}
 

@@ -1,9 +1,8 @@
 -- The sequences of disciplined code.
-use Rattle.std.proofs.Common.{◌≡◌, ◌≢◌, ◌⊎◌, ℕ, zero, suc, ◌+◌, ◌-◌, ◌*◌, ◌/◌, ◌%◌, ◌^◌, ◌<◌, ◌≤◌, List, [], ◌∷◌, length, ℤ, pos, negsuc, w32, Option, Some, None, Bool, true, false, cond, inl, inr, refl, sym, ap, ◌∙◌, subst, ⊎_elim, arith, true≢false, pow_pos, nat_lt, nat_le}
-use Rattle.std.specs.Prelude.{◌==◌, ◌&&◌, ◌||◌, not, if◌then◌else◌, ◌+ℤ◌}
+use Rattle.std.proofs.Common.{◌≡◌, ◌≢◌, ◌⊎◌, ℕ, zero, suc, ◌+◌, ◌-◌, ◌*◌, ◌/◌, ◌%◌, ◌^◌, ◌<◌, ◌≤◌, List, [], ◌∷◌, ℤ, pos, negsuc, w32, Option, Some, None, Bool, true, false, cond, inl, inr, refl, sym, ap, ◌∙◌, subst, ⊎_elim, arith, true≢false, nat_lt, nat_le}
+use Rattle.std.specs.Prelude.{◌==◌, ◌&&◌, ◌||◌, not, ◌+ℤ◌}
 use Rattle.std.proofs.Math.Pow.{pow_mono}
-use Rattle.std.proofs.lemmas.Bool.{cases_lt}
-use Rattle.std.proofs.lemmas.Bool.Decides.{nat_tests, eqb_tells}
+use Rattle.std.proofs.lemmas.Bool.Decides.{eqb_tells}
 use Rattle.std.proofs.lemmas.Int.{to_z_pos}
 use Rattle.bb_words.specs.Answers.{Answer, and_then}
 use Rattle.bb_words.specs.Numbers.{signed}
@@ -14,33 +13,28 @@ use Rattle.bb_words.specs.declared.kinds.ReportKind.TheVariants.{Bounds, Pointer
 use Rattle.bb_watch.specs.Live.{holder, holder_if, owner}
 use Rattle.bb_watch.specs.Safety.{IsInside, IsNear}
 use Rattle.marked_ptr.specs.Marked.{half_slot, unmarked, owner_slot, in_memory, word_at, moved}
-use Rattle.marked_ptr.specs.Laws.{IsPlaced, IsInReach, OwnedBy, answer_at, ComesInReach}
+use Rattle.marked_ptr.specs.Laws.{IsPlaced, IsInReach, answer_at, ComesInReach}
 use Rattle.marked_ptr.specs.declared.answer.MoveAnswer.{MoveAnswer}
 use Rattle.marked_ptr.specs.declared.answer.MoveAnswer.TheVariants.{Inside, Marked, Report}
-use Rattle.size_table.specs.declared.memory_map.TheConstants.{HEAP_START}
 use Rattle.size_table.specs.Blocks.{Block, holds, end_of}
 use Rattle.size_table.specs.Table.{byte_of}
 use Rattle.flat_code.specs.Code.{FStep, FSteps, ◌+++◌, FFunction, steps}
-use Rattle.flat_code.specs.Told.{Tell, tells}
-use Rattle.flat_code.specs.World.{Words, with_word, read, FWorld, FPoint, point, put, spend, tell, choose, Ending, Run, Way, onward}
-use Rattle.flat_code.specs.Safety.{IsSafe}
-use Rattle.flat_code.specs.Time.{charge}
+use Rattle.flat_code.specs.Told.{Tell}
+use Rattle.flat_code.specs.World.{Words, with_word, read, FWorld, FPoint, point, put, spend, tell, Ending, Run, Way, onward}
 use Rattle.flat_code.specs.Run.{slot_or_ones, slot_word, refusal, Calls, act, act_all}
-use Rattle.flat_code.specs.Sequences.{report, move_sequence, load_sequence, span_sequence, touch_steps, owned_steps, MoveApart, LoadApart, SpanApart, KeptBut, move_time, WentOn, WasReported, DoesMove, is_held as is_held_at, may_be_loaded, accessed as accessed_world, DoesLoad, WasLoaded, WasRefused, SpanKept, span_begin, span_time, first_touched, SpanWent, SpanStopped, SpanReported, LastTouched, DoesSpan}
-use Rattle.flat_code.specs.Laws.{Spans}
+use Rattle.flat_code.specs.Sequences.{report, move_sequence, load_sequence, span_sequence, touch_steps, owned_steps, MoveApart, LoadApart, SpanApart, KeptBut, move_time, WentOn, DoesMove, is_held as is_held_at, may_be_loaded, accessed as accessed_world, DoesLoad, SpanKept}
 use Rattle.flat_code.specs.Recognized.{Sequence, sequence_steps, is_none_of, move_is_apart, is_apart}
 use Rattle.flat_verify.specs.Items.{Item, step_places, steps_places}
 use Rattle.flat_verify.specs.Facts.{Fact, Source, Here, untold, is_among, temporaries, result, gives, spans, may_set, held_if, gone_if, source}
 use Rattle.flat_verify.specs.Chains.{fact_in}
 use Rattle.flat_verify.specs.Discipline.{setting, edges, LostAt}
-use Rattle.flat_verify.specs.Comes.{IfOn, InStep, InSteps}
-use Rattle.flat_verify.specs.Safe.{IsInRange}
+use Rattle.flat_verify.specs.Comes.{IfOn, InSteps}
 use Rattle.flat_verify.proofs.Blocks.{both, lt_of, ge_of, is_lt, ArePlaced, is_held, Within, Holder, holder_of, no_holder, byte_small, holds_tells, holds_address, Good, good_owner, plain_owner, owned_by}
 use Rattle.flat_verify.proofs.Worlds.{Laws, ever, Holds, same_holds, Next, same_next, then_next}
 use Rattle.flat_verify.proofs.Acts.{accessed, tell_next}
-use Rattle.flat_verify.proofs.Points.{set_same, set_other, SpannedBy, Base, OkAt, later, Says, SaysSpan, after as ok_after, HereHolds, untold_holds}
+use Rattle.flat_verify.proofs.Points.{set_same, set_other, SpannedBy, OkAt, later, Says, SaysSpan, after as ok_after, HereHolds, untold_holds}
 use Rattle.flat_verify.proofs.Lands.{if_on_any, by_zero, claims_by_zero, all_append, in_append, quiet, quiet_in, ranged, Lands, Any}
-use Rattle.flat_verify.proofs.Plain.{CallsSafe, Known, slot, touched}
+use Rattle.flat_verify.proofs.Plain.{CallsSafe, Known, touched}
 
 -- ---- Tests
 
@@ -210,8 +204,11 @@ module _ (g : ℕ) (globals : List Block) (functions : List FFunction) (laws : L
         block = r.block;
         owns = ap (λ z. holder_if g z u.world.live) own ∙ r.is;
         near = subst (λ w. IsInside r.block w ⊎ IsNear g r.block w) (sym x.is) (near g r.block x.offset r.placed x.reach);
-        good = inr (o.number, ap (owner_slot g) x.is ∙ some_of (owner_slot g (word_at r.block.base r.block.exponent x.offset)) o.number o.is,
-          h.within o.number (held_by u.world.live slot_ r.block r.is o.number (held_slot r.block o.number o.low o.high)));
+        good = inr (
+          o.number,
+          ap (owner_slot g) x.is ∙ some_of (owner_slot g (word_at r.block.base r.block.exponent x.offset)) o.number o.is,
+          h.within o.number (held_by u.world.live slot_ r.block r.is o.number (held_slot r.block o.number o.low o.high)),
+        );
       }
 
   arrived : (u : FPoint) (P D slot_ : ℕ) → Holds g globals u.world → owner_slot g P ≡ Some slot_ → ArrivedBy u P (moved g P D (byte_of g u.world.live slot_))
@@ -226,8 +223,8 @@ module _ (g : ℕ) (globals : List Block) (functions : List FFunction) (laws : L
       by true e =
           let r = holder_of g u.world.live slot_ h.placed e in
           subst (λ n. ArrivedBy u P (moved g P D n)) (sym r.byte)
-            (to r (moved g P D r.block.exponent) (reached g r.block.base r.block.exponent (moved g P D r.block.exponent)
-              (laws.reach g r.block.base r.block.exponent P D r.placed (owned_by g r.block P slot_ r.placed r.has own))))
+          (to r (moved g P D r.block.exponent) (reached g r.block.base r.block.exponent (moved g P D r.block.exponent)
+          (laws.reach g r.block.base r.block.exponent P D r.placed (owned_by g r.block P slot_ r.placed r.has own))))
       by false e = subst (λ n. ArrivedBy u P (moved g P D n)) (sym (no_holder g u.world.live slot_ e).1) tt
 
   -- a move is told
@@ -254,7 +251,7 @@ module _ (g : ℕ) (globals : List Block) (functions : List FFunction) (laws : L
   move_lands p d q line s e apart u h good =
       let own = good_owner g (evr u.world) (u.words p) h.placed_ever good in
       answered (moved g (u.words p) (u.words d) (byte_of g u.world.live own.0)) (arrived u (u.words p) (u.words d) own.0 h own.1)
-        (laws.moves g one known.high call m bytes p d q line s e apart u own.0 own.1 own.2 (byte_small g u.world.live own.0 h.placed))
+      (laws.moves g one known.high call m bytes p d q line s e apart u own.0 own.1 own.2 (byte_small g u.world.live own.0 h.placed))
     where
       went : (word : ℕ) → Arrived u (u.words p) word → (r : Run Way) → WentOn move_time p q s e word u r → MoveLands q s e u r
       went word a r x =
@@ -272,9 +269,16 @@ module _ (g : ℕ) (globals : List Block) (functions : List FFunction) (laws : L
       let own = good_owner g (evr u.world) (u.words p) h.placed_ever good in
       let t1 : FPoint = put s (slot_word g (u.words p)) (point u.words (spend 12 u.world)) in
       let t2 : FPoint = point t1.words (spend 4 t1.world) in
-      let small : t1.words s < 2 ^ (25 - g) = subst (λ x. x < 2 ^ (25 - g)) (sym (set_same u.words s s (slot_word g (u.words p)) refl ∙ ap slot_or_ones own.1)) own.2 in
-      (tt, tt, (small, tt, if_on_any (act g call m bytes (FStep.Look e s) t2) (In (dropped 2 (move_sequence g p d q line s e)) (at + 1 + 1))
-        (λ t. quiet_in g call m bytes functions S.frame inside (dropped 2 (move_sequence g p d q line s e)) refl (at + 1 + 1) t)))
+      let small : t1.words s < 2 ^ (25 - g) = subst (λ x. x < 2 ^ (25 - g)) (sym (set_same u.words s s (slot_word g (u.words p)) refl ∙ ap slot_or_ones own.1)) own.2 in (
+        tt,
+        tt,
+        (
+          small,
+          tt,
+          if_on_any (act g call m bytes (FStep.Look e s) t2) (In (dropped 2 (move_sequence g p d q line s e)) (at + 1 + 1))
+              (λ t. quiet_in g call m bytes functions S.frame inside (dropped 2 (move_sequence g p d q line s e)) refl (at + 1 + 1) t),
+        ),
+      )
 
   -- ---- Loads
 
@@ -309,9 +313,12 @@ module _ (g : ℕ) (globals : List Block) (functions : List FFunction) (laws : L
           let k = spend_next x.took (accessed_world (u.words at) 4 u.world) n.holds in
           let grows : Within g (evr u.world) (evr (spend x.took (accessed_world (u.words at) 4 u.world))) = λ j y. k.grows j (n.grows j y) in
           subst (MoveLands w s e u) (sym x.is) (record {
-            kept = x.kept; next = record { holds = k.holds; grows = grows }; live = refl; stack = refl;
+            kept = x.kept;
+            next = record { holds = k.holds; grows = grows };
+            live = refl;
+            stack = refl;
             good = subst (Good g (evr (spend x.took (accessed_world (u.words at) 4 u.world)))) (sym x.value)
-              (Rattle.flat_verify.proofs.Blocks.good_more g (evr u.world) (evr (spend x.took (accessed_world (u.words at) 4 u.world))) (read width.Pointer u.world.memory (u.words at)) grows (may_good u (read width.Pointer u.world.memory (u.words at)) h may));
+                (Rattle.flat_verify.proofs.Blocks.good_more g (evr u.world) (evr (spend x.took (accessed_world (u.words at) 4 u.world))) (read width.Pointer u.world.memory (u.words at)) grows (may_good u (read width.Pointer u.world.memory (u.words at)) h may));
           })
       answered none false may x =
           let n = acc_next u (u.words at) width.Pointer h good none in
@@ -331,9 +338,11 @@ module _ (g : ℕ) (globals : List Block) (functions : List FFunction) (laws : L
 
   owned_in : (w line s e at : ℕ) → e ≢ s → (t : FPoint) → In (FSteps.more (FStep.If w (owned_steps g w line s e) FSteps.none) FSteps.none) at t
   owned_in w line s e at ne t =
-      let t6 : FPoint = point t.words (spend 6 t.world) in
-      (tt, claims_by_zero (t.words w) (In FSteps.none (at + 1 + steps_places (owned_steps g w line s e))) (In (owned_steps g w line s e) (at + 1)) t6 (λ z. tt) (λ z. owned t6),
-       if_on_any (act g call m bytes (FStep.If w (owned_steps g w line s e) FSteps.none) t6) (In FSteps.none (at + step_places (FStep.If w (owned_steps g w line s e) FSteps.none))) (λ z. tt))
+      let t6 : FPoint = point t.words (spend 6 t.world) in (
+        tt,
+        claims_by_zero (t.words w) (In FSteps.none (at + 1 + steps_places (owned_steps g w line s e))) (In (owned_steps g w line s e) (at + 1)) t6 (λ z. tt) (λ z. owned t6),
+        if_on_any (act g call m bytes (FStep.If w (owned_steps g w line s e) FSteps.none) t6) (In FSteps.none (at + step_places (FStep.If w (owned_steps g w line s e) FSteps.none))) (λ z. tt),
+      )
     where
       owned : (x : FPoint) → In (owned_steps g w line s e) (at + 1) x
       owned x =
@@ -341,20 +350,38 @@ module _ (g : ℕ) (globals : List Block) (functions : List FFunction) (laws : L
           let v2 = with_word v1 e (2 ^ (25 - g)) in
           let v3 = with_word v2 e (arith_of op.Ltu (v2 s) (v2 e)) in
           let y : FPoint = point v3 (spend 6 (spend 5 (spend 3 (spend 12 x.world)))) in
-          let look = steps (FStep.Look e s ∷ FStep.If e FSteps.none (report Pointer line) ∷ []) in
-          (tt, tt, (tt, tt, (tt, tt, (tt,
-            claims_by_zero (v3 e) (In (report Pointer line) (at + 1 + 1 + 1 + 1 + 1 + steps_places look)) (In look (at + 1 + 1 + 1 + 1 + 1)) y
-              (λ z. quiet_in g call m bytes functions S.frame inside (report Pointer line) refl (at + 1 + 1 + 1 + 1 + 1 + steps_places look) y)
-              (λ some. (subst (λ z. z < 2 ^ (25 - g)) (sym (set_other v2 e s (arith_of op.Ltu (v2 s) (v2 e)) (λ z. ne (sym z))))
-                  (below_of (v2 s) (2 ^ (25 - g)) (v3 e) (set_same v2 e e (arith_of op.Ltu (v2 s) (v2 e)) refl ∙ ap (λ z. cond {A = ℕ} (nat_lt (v2 s) z) 1 0) (set_same v1 e e (2 ^ (25 - g)) refl)) some),
-                tt, if_on_any (act g call m bytes (FStep.Look e s) (point v3 (spend 4 y.world))) (In (steps (FStep.If e FSteps.none (report Pointer line) ∷ [])) (at + 1 + 1 + 1 + 1 + 1 + 1))
-                  (λ z. quiet_in g call m bytes functions S.frame inside (steps (FStep.If e FSteps.none (report Pointer line) ∷ [])) refl (at + 1 + 1 + 1 + 1 + 1 + 1) z))),
-            if_on_any (act g call m bytes (FStep.If e look (report Pointer line)) y) (In FSteps.none (at + 1 + 1 + 1 + 1 + step_places (FStep.If e look (report Pointer line)))) (λ z. tt)))))
+          let look = steps (FStep.Look e s ∷ FStep.If e FSteps.none (report Pointer line) ∷ []) in (
+            tt,
+            tt,
+            (
+              tt,
+              tt,
+              (
+                tt,
+                tt,
+                (
+                  tt,
+                  claims_by_zero (v3 e) (In (report Pointer line) (at + 1 + 1 + 1 + 1 + 1 + steps_places look)) (In look (at + 1 + 1 + 1 + 1 + 1)) y
+                      (λ z. quiet_in g call m bytes functions S.frame inside (report Pointer line) refl (at + 1 + 1 + 1 + 1 + 1 + steps_places look) y)
+                      (λ some. (
+                        subst (λ z. z < 2 ^ (25 - g)) (sym (set_other v2 e s (arith_of op.Ltu (v2 s) (v2 e)) (λ z. ne (sym z))))
+                            (below_of (v2 s) (2 ^ (25 - g)) (v3 e) (set_same v2 e e (arith_of op.Ltu (v2 s) (v2 e)) refl ∙ ap (λ z. cond {A = ℕ} (nat_lt (v2 s) z) 1 0) (set_same v1 e e (2 ^ (25 - g)) refl)) some),
+                        tt,
+                        if_on_any (act g call m bytes (FStep.Look e s) (point v3 (spend 4 y.world))) (In (steps (FStep.If e FSteps.none (report Pointer line) ∷ [])) (at + 1 + 1 + 1 + 1 + 1 + 1))
+                            (λ z. quiet_in g call m bytes functions S.frame inside (steps (FStep.If e FSteps.none (report Pointer line) ∷ [])) refl (at + 1 + 1 + 1 + 1 + 1 + 1) z),
+                      )),
+                  if_on_any (act g call m bytes (FStep.If e look (report Pointer line)) y) (In FSteps.none (at + 1 + 1 + 1 + 1 + step_places (FStep.If e look (report Pointer line)))) (λ z. tt),
+                ),
+              ),
+            ),
+          )
 
   load_in : (w a line s e at : ℕ) → e ≢ s → (u : FPoint) → Holds g globals u.world → Good g (evr u.world) (u.words a) → In (load_sequence g w a line s e) at u
-  load_in w a line s e at ne u h good =
-      ((accessed g (evr u.world) (u.words a) 4 h.placed_ever good).not_cut, tt,
-       if_on_any (act g call m bytes (FStep.Load w a width.Pointer) (point u.words (spend 3 u.world))) (In (steps (FStep.If w (owned_steps g w line s e) FSteps.none ∷ [])) (at + 1)) (λ t. owned_in w line s e (at + 1) ne t))
+  load_in w a line s e at ne u h good = (
+    (accessed g (evr u.world) (u.words a) 4 h.placed_ever good).not_cut,
+    tt,
+    if_on_any (act g call m bytes (FStep.Load w a width.Pointer) (point u.words (spend 3 u.world))) (In (steps (FStep.If w (owned_steps g w line s e) FSteps.none ∷ [])) (at + 1)) (λ t. owned_in w line s e (at + 1) ne t),
+  )
 
   -- ---- Spans
 
@@ -378,7 +405,7 @@ module _ (g : ℕ) (globals : List Block) (functions : List FFunction) (laws : L
       some_is x y e = cc
 
       answer : (b : Block) (k : ℕ) → holder g slot_ u.world.live ≡ Some b → b.base ≤ a → k ≡ a - b.base + d → (t : Bool) → nat_lt k (2 ^ b.exponent) ≡ t
-        → (o : ℕ) → o ≡ cond t (b.base + k) (2 ^ 31 + (b.base + k)) → o < 2 ^ 31 → Spanning u a d
+          → (o : ℕ) → o ≡ cond t (b.base + k) (2 ^ 31 + (b.base + k)) → o < 2 ^ 31 → Spanning u a d
       answer b k found low is true e o q lt = let z = lt_of k (2 ^ b.exponent) e in record { slot_ = slot_; block = b; found = found; low = low; high = omega (arith, z, is, low) }
       answer b k found low is false e o q lt = absurd (let z : ⊥ = omega (arith, q, lt) in z)
 
@@ -404,7 +431,7 @@ module _ (g : ℕ) (globals : List Block) (functions : List FFunction) (laws : L
           let word : word_at b.base b.exponent (pos o) ≡ a = ap (λ t. cond t (b.base + o) (2 ^ 31 + (b.base + o))) (is_lt o (2 ^ b.exponent) lt) ∙ (let z : b.base + o ≡ a = omega (arith, at.0) in z) in
           let law : moved g (word_at b.base b.exponent (pos o)) d b.exponent ≡ answer_at g b.base b.exponent (pos o +ℤ signed d) = laws.offsets g b.base b.exponent d (pos o) r.placed (omega (arith, lt)) (omega (arith, small_d)) in
           let whole : moved g a d (byte_of g u.world.live slot_) ≡ answer_at g b.base b.exponent (pos (o + d)) =
-            ap (λ n. moved g a d n) r.byte ∙ ap (λ x. moved g x d b.exponent) (sym word) ∙ law ∙ ap (λ z. answer_at g b.base b.exponent (pos o +ℤ z)) (to_z_pos w32 d small_d) in
+          ap (λ n. moved g a d n) r.byte ∙ ap (λ x. moved g x d b.exponent) (sym word) ∙ law ∙ ap (λ z. answer_at g b.base b.exponent (pos o +ℤ z)) (to_z_pos w32 d small_d) in
           subst (SpanningBy u a d) (sym whole) (to b (o + d) r.is at.0 refl)
       by false e = subst (λ n. SpanningBy u a d (moved g a d n)) (sym (no_holder g u.world.live slot_ e).1) tt
 
@@ -419,7 +446,7 @@ module _ (g : ℕ) (globals : List Block) (functions : List FFunction) (laws : L
   move_spans p d q line s e apart u h good small_p small_d =
       let own = good_owner g (evr u.world) (u.words p) h.placed_ever good in
       answered (moved g (u.words p) (u.words d) (byte_of g u.world.live own.0)) (spanning u (u.words p) (u.words d) own.0 h own.1 small_p small_d)
-        (laws.moves g one known.high call m bytes p d q line s e apart u own.0 own.1 own.2 (byte_small g u.world.live own.0 h.placed))
+      (laws.moves g one known.high call m bytes p d q line s e apart u own.0 own.1 own.2 (byte_small g u.world.live own.0 h.placed))
     where
       went : (word : ℕ) → (word < 2 ^ 31 → Spanning u (u.words p) (u.words d)) → (r : Run Way) → WentOn move_time p q s e word u r → MoveSpans p d q u r
       went word a r x = subst (MoveSpans p d q u) (sym x.is) (λ lt. a (subst (λ z. z < 2 ^ 31) x.value lt))
@@ -465,16 +492,17 @@ module _ (g : ℕ) (globals : List Block) (functions : List FFunction) (laws : L
 
     below : v2 d ≢ 0 → u.words n < 0x0100_0001
     below some = below_of (u.words n) 0x0100_0001 (v2 d)
-      (set_same v1 d d (arith_of op.Ltu (v1 n) (v1 d)) refl ∙ ap (λ z. cond {A = ℕ} (nat_lt z (v1 d)) 1 0) (set_other u.words d n 0x0100_0001 apart.np) ∙ ap (λ z. cond {A = ℕ} (nat_lt (u.words n) z) 1 0) (set_same u.words d d 0x0100_0001 refl)) some
+        (set_same v1 d d (arith_of op.Ltu (v1 n) (v1 d)) refl ∙ ap (λ z. cond {A = ℕ} (nat_lt z (v1 d)) 1 0) (set_other u.words d n 0x0100_0001 apart.np) ∙ ap (λ z. cond {A = ℕ} (nat_lt (u.words n) z) 1 0) (set_same u.words d d 0x0100_0001 refl)) some
 
     -- the last byte, after the move
     ended : (t : FPoint) → Nx u.world t.world → t.world.live ≡ u.world.live → t.world.stack ≡ u.world.stack → SpanKept q d s e u.words t.words → Good g (evr t.world) (t.words q) → (t.words q < 2 ^ 31 → SpannedBy g u.world.live (u.words p) (u.words n))
-      → (at_ : ℕ) → In last at_ t × SL (go last t)
+        → (at_ : ℕ) → In last at_ t × SL (go last t)
     unfolding and_then
     ended t next live stack kept good_q spans_ at_ =
-        let acc = accessed g (evr t.world) (t.words q) 1 next.holds.placed_ever good_q in
-        ((acc.not_cut, tt, if_on_any (act g call m bytes (FStep.Load d q width.Byte) (point t.words (spend 3 t.world))) (In FSteps.none (at_ + 1)) (λ z. tt)),
-         subst SL (sym (Rattle.flat_verify.proofs.Lands.one_step g call m bytes (FStep.Load d q width.Byte) t)) (by (refusal (t.words q) 1) refl))
+        let acc = accessed g (evr t.world) (t.words q) 1 next.holds.placed_ever good_q in (
+          (acc.not_cut, tt, if_on_any (act g call m bytes (FStep.Load d q width.Byte) (point t.words (spend 3 t.world))) (In FSteps.none (at_ + 1)) (λ z. tt)),
+          subst SL (sym (Rattle.flat_verify.proofs.Lands.one_step g call m bytes (FStep.Load d q width.Byte) t)) (by (refusal (t.words q) 1) refl),
+        )
       where
         by : (o : Option Ending) → refusal (t.words q) 1 ≡ o → SL (Rattle.flat_code.specs.Run.unless_refused o (λ z. Answer.Goes Way.On (Rattle.flat_code.specs.Run.loaded d (t.words q) width.Byte z)) (point t.words (spend 3 t.world)))
         by (Some ending) is = (spend_next 3 t.world next.holds).holds
@@ -485,38 +513,45 @@ module _ (g : ℕ) (globals : List Block) (functions : List FFunction) (laws : L
             record {
               kept = λ v nq nd ns ne. set_other t.words d v (read width.Byte t.world.memory (t.words q)) nd ∙ kept v nq nd ns ne;
               next = then_next g globals laws u.world t.world w9 next k;
-              live = live; stack = stack;
+              live = live;
+              stack = stack;
               result = λ y. subst (Good g (evr w9)) (sym (set_other t.words d q (read width.Byte t.world.memory (t.words q)) (λ z. apart.move.qd z))) (Rattle.flat_verify.proofs.Blocks.good_more g (evr t.world) (evr w9) (t.words q) k.grows good_q);
               spanned = subst (λ l. SpannedBy g l (u.words p) (u.words n)) (sym live) (spans_ small);
             }
 
     -- the move, after the first byte
     moved_on : (x : FPoint) → Nx u.world x.world → x.world.live ≡ u.world.live → x.world.stack ≡ u.world.stack → ((v : ℕ) → v ≢ d → x.words v ≡ u.words v) → x.words d ≡ u.words n - 1 → 1 ≤ u.words n → u.words n < 0x0100_0001 → u.words p < 2 ^ 31
-      → (at_ : ℕ) → In (move_sequence g p d q line s e +++ last) at_ x × SL (go (move_sequence g p d q line s e +++ last) x)
+        → (at_ : ℕ) → In (move_sequence g p d q line s e +++ last) at_ x × SL (go (move_sequence g p d q line s e +++ last) x)
     unfolding and_then
     moved_on x next live stack keeps d_is some small plain at_ =
         let p_is : x.words p ≡ u.words p = keeps p p_not_d in
         let good_p : Good g (evr x.world) (x.words p) = subst (Good g (evr x.world)) (sym p_is) (Rattle.flat_verify.proofs.Blocks.good_more g (evr u.world) (evr x.world) (u.words p) next.grows good) in
         let r = landed (go (move_sequence g p d q line s e) x)
-              (move_lands p d q line s e apart.move x next.holds good_p)
-              (move_spans p d q line s e apart.move x next.holds good_p (subst (λ z. z < 2 ^ 31) (sym p_is) plain) (subst (λ z. z < 2 ^ 31) (sym d_is) (omega (arith, small)))) in
-        (in_append g call m bytes inside (ranged g call m bytes functions S.frame inside) (move_sequence g p d q line s e) last at_ x (move_in p d q line s e at_ x next.holds good_p) r.0,
-         subst SL (sym (all_append g call m bytes (move_sequence g p d q line s e) last x)) r.1)
+        (move_lands p d q line s e apart.move x next.holds good_p)
+        (move_spans p d q line s e apart.move x next.holds good_p (subst (λ z. z < 2 ^ 31) (sym p_is) plain) (subst (λ z. z < 2 ^ 31) (sym d_is) (omega (arith, small)))) in (
+          in_append g call m bytes inside (ranged g call m bytes functions S.frame inside) (move_sequence g p d q line s e) last at_ x (move_in p d q line s e at_ x next.holds good_p) r.0,
+          subst SL (sym (all_append g call m bytes (move_sequence g p d q line s e) last x)) r.1,
+        )
       where
         landed : (r : Run Way) → MoveLands q s e x r → MoveSpans p d q x r → IfOn r (In last (at_ + steps_places (move_sequence g p d q line s e))) × SL (and_then r (λ way t. onward way t (go last)))
         landed (Answer.Goes Way.On t) l sp =
             ended t (then_next g globals laws u.world x.world t.world next l.next) (l.live ∙ live) (l.stack ∙ stack)
-              (λ v nq nd ns ne. l.kept v nq ns ne ∙ keeps v nd) l.good
-              (λ lt. let z = sp lt in inr (z.slot_, z.block, subst (λ l. holder g z.slot_ l ≡ Some z.block) live z.found, subst (λ k. z.block.base ≤ k) (keeps p p_not_d) z.low,
-                (let lim = z.high in let same = keeps p p_not_d in omega (arith, lim, same, d_is, some))))
-              (at_ + steps_places (move_sequence g p d q line s e))
+            (λ v nq nd ns ne. l.kept v nq ns ne ∙ keeps v nd) l.good
+            (λ lt. let z = sp lt in inr (
+              z.slot_,
+              z.block,
+              subst (λ l. holder g z.slot_ l ≡ Some z.block) live z.found,
+              subst (λ k. z.block.base ≤ k) (keeps p p_not_d) z.low,
+              (let lim = z.high in let same = keeps p p_not_d in omega (arith, lim, same, d_is, some)),
+            ))
+            (at_ + steps_places (move_sequence g p d q line s e))
         landed (Answer.Goes (Way.Out k) t) l sp = absurd l
         landed (Answer.Goes (Way.Back k) t) l sp = absurd l
         landed (Answer.Ends ending t) l sp = (tt, l)
 
     -- the first byte
     touched_first : (x : FPoint) → x.words ≡ v2 → Nx u.world x.world → x.world.live ≡ u.world.live → x.world.stack ≡ u.world.stack → 1 ≤ u.words n → u.words n < 0x0100_0001
-      → (at_ : ℕ) → In (touch_steps g p n q line d s e) at_ x × SL (go (touch_steps g p n q line d s e) x)
+        → (at_ : ℕ) → In (touch_steps g p n q line d s e) at_ x × SL (go (touch_steps g p n q line d s e) x)
     unfolding and_then
     touched_first x words next live stack some small at_ =
         let p_is : x.words p ≡ u.words p = ap (λ (ws : Words). ws p) words ∙ v2_keeps p p_not_d in
@@ -529,8 +564,8 @@ module _ (g : ℕ) (globals : List Block) (functions : List FFunction) (laws : L
         abbrev_rest = steps (FStep.Number d 0xffff_ffff ∷ FStep.Arith d op.Add n d ∷ []) +++ (move_sequence g p d q line s e +++ last)
 
         by : x.words p ≡ u.words p → Good g (evr x.world) (x.words p) → (o : Option Ending) → refusal (x.words p) 1 ≡ o
-          → IfOn (Rattle.flat_code.specs.Run.unless_refused o (λ z. Answer.Goes Way.On (Rattle.flat_code.specs.Run.loaded d (x.words p) width.Byte z)) (point x.words (spend 3 x.world))) (In (steps (FStep.Number d 0xffff_ffff ∷ FStep.Arith d op.Add n d ∷ []) +++ (move_sequence g p d q line s e +++ last)) (at_ + 1))
-          × SL (and_then (Rattle.flat_code.specs.Run.unless_refused o (λ z. Answer.Goes Way.On (Rattle.flat_code.specs.Run.loaded d (x.words p) width.Byte z)) (point x.words (spend 3 x.world))) (λ way t. onward way t (go (steps (FStep.Number d 0xffff_ffff ∷ FStep.Arith d op.Add n d ∷ []) +++ (move_sequence g p d q line s e +++ last)))))
+            → IfOn (Rattle.flat_code.specs.Run.unless_refused o (λ z. Answer.Goes Way.On (Rattle.flat_code.specs.Run.loaded d (x.words p) width.Byte z)) (point x.words (spend 3 x.world))) (In (steps (FStep.Number d 0xffff_ffff ∷ FStep.Arith d op.Add n d ∷ []) +++ (move_sequence g p d q line s e +++ last)) (at_ + 1))
+            × SL (and_then (Rattle.flat_code.specs.Run.unless_refused o (λ z. Answer.Goes Way.On (Rattle.flat_code.specs.Run.loaded d (x.words p) width.Byte z)) (point x.words (spend 3 x.world))) (λ way t. onward way t (go (steps (FStep.Number d 0xffff_ffff ∷ FStep.Arith d op.Add n d ∷ []) +++ (move_sequence g p d q line s e +++ last)))))
         by p_is good_p (Some ending) is = (tt, (spend_next 3 x.world next.holds).holds)
         by p_is good_p None is =
             let k = acc_next x (x.words p) width.Byte next.holds good_p is in
@@ -560,16 +595,22 @@ module _ (g : ℕ) (globals : List Block) (functions : List FFunction) (laws : L
         let y : FPoint = point x.words (spend 6 x.world) in
         let next6 : Nx u.world y.world = then_next g globals laws u.world x.world y.world next (spend_next 6 x.world next.holds) in
         let r = by_zero (x.words n) (λ (r : Run Way). SL r) (go FSteps.none) (go (touch_steps g p n q line d s e)) y
-              (λ z. record {
-                kept = λ v nq nd ns ne. ap (λ (ws : Words). ws v) words ∙ v2_keeps v nd;
-                next = next6; live = live; stack = stack;
-                result = λ k. subst (Good g (evr y.world)) (sym (ap (λ (ws : Words). ws q) words ∙ v2_keeps q apart.move.qd)) k;
-                spanned = inl (sym (n_is) ∙ z);
-              })
-              (λ some. (touched_first y words next6 live stack (positive some) small (at_ + 1)).1) in
-        ((tt, claims_by_zero (x.words n) (In FSteps.none (at_ + 1 + steps_places (touch_steps g p n q line d s e))) (In (touch_steps g p n q line d s e) (at_ + 1)) y (λ z. tt) (λ some. (touched_first y words next6 live stack (positive some) small (at_ + 1)).0),
-          if_on_any (act g call m bytes (FStep.If n (touch_steps g p n q line d s e) FSteps.none) y) (In FSteps.none (at_ + step_places (FStep.If n (touch_steps g p n q line d s e) FSteps.none))) (λ z. tt)),
-         subst SL (sym (Rattle.flat_verify.proofs.Lands.one_step g call m bytes (FStep.If n (touch_steps g p n q line d s e) FSteps.none) x)) r)
+        (λ z. record {
+          kept = λ v nq nd ns ne. ap (λ (ws : Words). ws v) words ∙ v2_keeps v nd;
+          next = next6;
+          live = live;
+          stack = stack;
+          result = λ k. subst (Good g (evr y.world)) (sym (ap (λ (ws : Words). ws q) words ∙ v2_keeps q apart.move.qd)) k;
+          spanned = inl (sym (n_is) ∙ z);
+        })
+        (λ some. (touched_first y words next6 live stack (positive some) small (at_ + 1)).1) in (
+          (
+            tt,
+            claims_by_zero (x.words n) (In FSteps.none (at_ + 1 + steps_places (touch_steps g p n q line d s e))) (In (touch_steps g p n q line d s e) (at_ + 1)) y (λ z. tt) (λ some. (touched_first y words next6 live stack (positive some) small (at_ + 1)).0),
+            if_on_any (act g call m bytes (FStep.If n (touch_steps g p n q line d s e) FSteps.none) y) (In FSteps.none (at_ + step_places (FStep.If n (touch_steps g p n q line d s e) FSteps.none))) (λ z. tt),
+          ),
+          subst SL (sym (Rattle.flat_verify.proofs.Lands.one_step g call m bytes (FStep.If n (touch_steps g p n q line d s e) FSteps.none) x)) r,
+        )
       where
         n_is : x.words n ≡ u.words n
         n_is = ap (λ (ws : Words). ws n) words ∙ v2_keeps n apart.np
@@ -586,8 +627,8 @@ module _ (g : ℕ) (globals : List Block) (functions : List FFunction) (laws : L
         let x : FPoint = point v2 (spend 6 (spend 5 (spend 3 u.world))) in
         let next : Nx u.world x.world = same_next g globals laws u.world x.world refl refl h.stack h in
         let r = by_zero (v2 d) (λ (r : Run Way). IfOn r (In touch_if (at + 1 + 1 + 2)) × SL (and_then r (λ way t. onward way t (go touch_if)))) (go (report Bounds line)) (go FSteps.none) x
-              (λ z. (tt, (spend_next 4 x.world next.holds).holds))
-              (λ some. in_time x refl next refl refl (below some) (at + 1 + 1 + 2)) in
+        (λ z. (tt, (spend_next 4 x.world next.holds).holds))
+        (λ some. in_time x refl next refl refl (below some) (at + 1 + 1 + 2)) in
         ((tt, tt, (tt, tt, (tt, claims_by_zero (v2 d) (In (report Bounds line) (at + 1 + 1 + 1 + 0)) (In FSteps.none (at + 1 + 1 + 1)) x (λ z. (tt, tt, tt)) (λ z. tt), r.0))), r.1)
 
   -- ---- After a sequence
@@ -649,22 +690,24 @@ module _ (g : ℕ) (globals : List Block) (functions : List FFunction) (laws : L
   -- the sequences of three values
   three_fared : (x : Sequence) (q s e : ℕ) (u t : FPoint) → ((v : ℕ) → may_set x v ≡ ((v == q) || is_among v (s ∷ e ∷ []))) → ((v : ℕ) → gives x v ≡ (v == q)) → ((v : ℕ) → is_among v (temporaries x) ≡ is_among v (s ∷ e ∷ [])) → ((a n : ℕ) → spans x a n ≡ false) → MoveWent q s e u t → SequenceFared x u t
   three_fared x q s e u t sets given_is temps none_ went = record {
-      next = went.next; live = went.live; stack = went.stack;
-      kept = λ v h. let k = three_kept v q s e (sym (sets v) ∙ h) in went.kept v k.0 k.1 k.2;
-      given = λ v h. subst (λ z. Good g (evr t.world) (t.words z)) (sym (equal v q (sym (given_is v) ∙ h))) went.good;
-      else_ = λ v h k y.
+    next = went.next;
+    live = went.live;
+    stack = went.stack;
+    kept = λ v h. let k = three_kept v q s e (sym (sets v) ∙ h) in went.kept v k.0 k.1 k.2;
+    given = λ v h. subst (λ z. Good g (evr t.world) (t.words z)) (sym (equal v q (sym (given_is v) ∙ h))) went.good;
+    else_ = λ v h k y.
         let a = unequal v q (sym (given_is v) ∙ h) in
         let b = or_false (v == s) (is_among v (e ∷ [])) (sym (temps v) ∙ k) in
         let c = or_false (v == e) (is_among v []) b.1 in
         subst (Good g (evr t.world)) (sym (went.kept v a (unequal v s b.0) (unequal v e c.0))) y;
-      spanned = λ a n h. absurd (true≢false (sym h ∙ none_ a n));
-    }
+    spanned = λ a n h. absurd (true≢false (sym h ∙ none_ a n));
+  }
 
   abbrev pub CheckFares : Sequence → Here → (p after : ℕ) → List ℕ → FPoint → Type 0
   CheckFares x h p after exits u = In (sequence_steps g x) p u × Lands g globals functions f base w0 after exits (λ v. HereHolds g globals functions f base w0 untold v.words) (go (sequence_steps g x) u)
 
   three_landed : (x : Sequence) (h : Here) (p after : ℕ) (exits : List ℕ) (u : FPoint) (q s e : ℕ) → edges g globals functions f h (Item.Checks x) p (Some after) → Ok p u
-    → ((t : FPoint) → MoveWent q s e u t → SequenceFared x u t) → (r : Run Way) → MoveLands q s e u r → Lands g globals functions f base w0 after exits (λ v. HereHolds g globals functions f base w0 untold v.words) r
+      → ((t : FPoint) → MoveWent q s e u t → SequenceFared x u t) → (r : Run Way) → MoveLands q s e u r → Lands g globals functions f base w0 after exits (λ v. HereHolds g globals functions f base w0 untold v.words) r
   three_landed x h p after exits u q s e edge at to (Answer.Goes Way.On t) l = (sequence_after x h p after u t edge at (to t l), untold_holds g globals functions f base w0 t.words)
   three_landed x h p after exits u q s e edge at to (Answer.Goes (Way.Out n) t) l = absurd l
   three_landed x h p after exits u q s e edge at to (Answer.Goes (Way.Back n) t) l = absurd l
@@ -672,31 +715,33 @@ module _ (g : ℕ) (globals : List Block) (functions : List FFunction) (laws : L
 
   span_fared : (p n q line d s e : ℕ) → SpanApart p n q line d s e → (u t : FPoint) → SpanFared p n q d s e u t → SequenceFared (Sequence.Span p n q line d s e) u t
   span_fared p n q line d s e apart u t went = record {
-      next = went.next; live = went.live; stack = went.stack;
-      kept = λ v h.
+    next = went.next;
+    live = went.live;
+    stack = went.stack;
+    kept = λ v h.
         let a = or_false (v == q) (is_among v (d ∷ s ∷ e ∷ [])) h in
         let b = or_false (v == d) (is_among v (s ∷ e ∷ [])) a.1 in
         let c = or_false (v == s) (is_among v (e ∷ [])) b.1 in
         let k = or_false (v == e) (is_among v []) c.1 in
         went.kept v (unequal v q a.0) (unequal v d b.0) (unequal v s c.0) (unequal v e k.0);
-      given = λ v h. absurd (true≢false (sym h));
-      else_ = λ v h k y.
+    given = λ v h. absurd (true≢false (sym h));
+    else_ = λ v h k y.
         let b = or_false (v == d) (is_among v (s ∷ e ∷ [])) k in
         let c = or_false (v == s) (is_among v (e ∷ [])) b.1 in
         let j = or_false (v == e) (is_among v []) c.1 in
         ⊎_elim
-          (λ i. subst (λ z. Good g (evr t.world) (t.words z)) (sym i.1) (went.result (subst (λ z. Good g (evr t.world) (u.words z)) i.1 y)))
-          (λ i. subst (Good g (evr t.world)) (sym (went.kept v i.1 (unequal v d b.0) (unequal v s c.0) (unequal v e j.0))) y)
-          (eqb_tells v q);
-      spanned = λ a m h.
+        (λ i. subst (λ z. Good g (evr t.world) (t.words z)) (sym i.1) (went.result (subst (λ z. Good g (evr t.world) (u.words z)) i.1 y)))
+        (λ i. subst (Good g (evr t.world)) (sym (went.kept v i.1 (unequal v d b.0) (unequal v s c.0) (unequal v e j.0))) y)
+        (eqb_tells v q);
+    spanned = λ a m h.
         let k = both (a == p) (m == n) h in
         let ap_ = equal a p k.0 in
         let mn = equal m n k.1 in
         let keep_p : t.words p ≡ u.words p = went.kept p (λ z. apart.move.qp (sym z)) (λ z. apart.dp (sym z)) (λ z. apart.move.sp (sym z)) (λ z. apart.move.ep (sym z)) in
         let keep_n : t.words n ≡ u.words n = went.kept n apart.nq apart.np apart.ns apart.ne in
         subst (λ z. SpannedBy g t.world.live (t.words z) (t.words m)) (sym ap_) (subst (λ z. SpannedBy g t.world.live (t.words p) (t.words z)) (sym mn)
-          (subst (λ z. SpannedBy g t.world.live z (t.words n)) (sym keep_p) (subst (λ z. SpannedBy g t.world.live (u.words p) z) (sym keep_n) went.spanned)));
-    }
+        (subst (λ z. SpannedBy g t.world.live z (t.words n)) (sym keep_p) (subst (λ z. SpannedBy g t.world.live (u.words p) z) (sym keep_n) went.spanned)));
+  }
 
   span_landed : (p n q line d s e : ℕ) → SpanApart p n q line d s e → (h : Here) (at after : ℕ) (exits : List ℕ) (u : FPoint) → edges g globals functions f h (Item.Checks (Sequence.Span p n q line d s e)) at (Some after) → Ok at u → (r : Run Way) → SpanLands p n q d s e u r → Lands g globals functions f base w0 after exits (λ v. HereHolds g globals functions f base w0 untold v.words) r
   span_landed p n q line d s e apart h at after exits u edge ok (Answer.Goes Way.On t) l = (sequence_after (Sequence.Span p n q line d s e) h at after u t edge ok (span_fared p n q line d s e apart u t l), untold_holds g globals functions f base w0 t.words)
@@ -707,15 +752,17 @@ module _ (g : ℕ) (globals : List Block) (functions : List FFunction) (laws : L
   pub check_fares : (x : Sequence) (h : Here) (p after : ℕ) (exits : List ℕ) (u : FPoint) → edges g globals functions f h (Item.Checks x) p (Some after) → is_apart x ≡ true → nat_lt (Rattle.flat_verify.specs.Breaks.pointer x) S.values ≡ true → (L p (Fact.Clean (Rattle.flat_verify.specs.Breaks.pointer x)) → ⊥) → Ok p u → CheckFares x h p after exits u
   check_fares (Sequence.Move p d q line s e) h at after exits u edge apart in_ fine ok =
       let good = ok.good p in_ fine in
-      let x = Sequence.Move p d q line s e in
-      (move_in p d q line s e at u ok.kept.holds good,
-       three_landed x h at after exits u q s e edge ok (λ t w. three_fared x q s e u t (λ v. refl) (λ v. refl) (λ v. refl) (λ a n. refl) w) (go (sequence_steps g x) u) (move_lands p d q line s e (move_apart p d q line s e apart) u ok.kept.holds good))
+      let x = Sequence.Move p d q line s e in (
+        move_in p d q line s e at u ok.kept.holds good,
+        three_landed x h at after exits u q s e edge ok (λ t w. three_fared x q s e u t (λ v. refl) (λ v. refl) (λ v. refl) (λ a n. refl) w) (go (sequence_steps g x) u) (move_lands p d q line s e (move_apart p d q line s e apart) u ok.kept.holds good),
+      )
   check_fares (Sequence.Load w a line s e) h at after exits u edge apart in_ fine ok =
       let good = ok.good a in_ fine in
       let x = Sequence.Load w a line s e in
-      let la = load_apart w a line s e apart in
-      (load_in w a line s e at la.es u ok.kept.holds good,
-       three_landed x h at after exits u w s e edge ok (λ t k. three_fared x w s e u t (λ v. refl) (λ v. refl) (λ v. refl) (λ b n. refl) k) (go (sequence_steps g x) u) (load_lands w a line s e la u ok.kept.holds good))
+      let la = load_apart w a line s e apart in (
+        load_in w a line s e at la.es u ok.kept.holds good,
+        three_landed x h at after exits u w s e edge ok (λ t k. three_fared x w s e u t (λ v. refl) (λ v. refl) (λ v. refl) (λ b n. refl) k) (go (sequence_steps g x) u) (load_lands w a line s e la u ok.kept.holds good),
+      )
   check_fares (Sequence.Span p n q line d s e) h at after exits u edge apart in_ fine ok =
       let good = ok.good p in_ fine in
       let sa = span_apart p n q line d s e apart in

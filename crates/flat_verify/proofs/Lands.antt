@@ -1,13 +1,13 @@
 -- Where the steps of a function come to, and what holds of each step on the way.
-use Rattle.std.proofs.Common.{◌≡◌, ◌≢◌, ◌⊎◌, ℕ, zero, suc, ◌+◌, ◌-◌, ◌^◌, ◌<◌, ◌≤◌, List, [], ◌∷◌, Option, Some, None, Bool, true, false, cond, inl, inr, refl, sym, ap, ◌∙◌, subst, ⊎_elim, arith, true≢false, nat_lt}
-use Rattle.std.specs.Prelude.{◌==◌, ◌&&◌, ◌||◌, slice_get, if◌then◌else◌}
+use Rattle.std.proofs.Common.{◌≡◌, ◌≢◌, ℕ, zero, suc, ◌+◌, List, ◌∷◌, Some, Bool, true, false, cond, refl, sym, ap, ◌∙◌, subst, ⊎_elim, arith, true≢false}
+use Rattle.std.specs.Prelude.{◌==◌, ◌&&◌, slice_get}
 use Rattle.std.proofs.lemmas.Bool.Decides.{eqb_tells}
 use Rattle.bb_words.specs.Answers.{Answer, and_then, either}
 use Rattle.size_table.specs.Blocks.{Block}
 use Rattle.flat_code.specs.Code.{FStep, FSteps, ◌+++◌, FFunction}
-use Rattle.flat_code.specs.World.{FWorld, FPoint, point, spend, choose, Ending, Run, Way, onward, out_of, again}
+use Rattle.flat_code.specs.World.{FWorld, FPoint, point, spend, choose, Run, Way, onward, out_of, again}
 use Rattle.flat_code.specs.Time.{charge, turn_charge}
-use Rattle.flat_code.specs.Run.{goes, turns, Calls, act, act_all}
+use Rattle.flat_code.specs.Run.{turns, Calls, act, act_all}
 use Rattle.flat_verify.specs.Items.{step_places, steps_places}
 use Rattle.flat_verify.specs.Discipline.{ResultLost}
 use Rattle.flat_verify.specs.Comes.{Claim, IfOn, InTurns, InStep, InSteps}
@@ -27,15 +27,15 @@ if_on_any (Answer.Ends e t) P h = tt
 -- one of two ways, by a number that is tested
 pub by_zero : {A : Type 0} (x : ℕ) (P : A → Type 0) (a b : FPoint → A) (u : FPoint) → (x ≡ 0 → P (a u)) → (x ≢ 0 → P (b u)) → P (choose (x == 0) a b u)
 by_zero x P a b u h k = ⊎_elim
-  (λ e. subst (λ t. P (choose t a b u)) (sym e.0) (h e.1))
-  (λ e. subst (λ t. P (choose t a b u)) (sym e.0) (k e.1))
-  (eqb_tells x 0)
+    (λ e. subst (λ t. P (choose t a b u)) (sym e.0) (h e.1))
+    (λ e. subst (λ t. P (choose t a b u)) (sym e.0) (k e.1))
+    (eqb_tells x 0)
 
 pub claims_by_zero : (x : ℕ) (a b : FPoint → Type 0) (u : FPoint) → (x ≡ 0 → a u) → (x ≢ 0 → b u) → either (x == 0) a b u
 claims_by_zero x a b u h k = ⊎_elim
-  (λ e. subst (λ t. either t a b u) (sym e.0) (h e.1))
-  (λ e. subst (λ t. either t a b u) (sym e.0) (k e.1))
-  (eqb_tells x 0)
+    (λ e. subst (λ t. either t a b u) (sym e.0) (h e.1))
+    (λ e. subst (λ t. either t a b u) (sym e.0) (k e.1))
+    (eqb_tells x 0)
 
 -- ---- Steps one after another
 
@@ -76,8 +76,8 @@ module _ (g : ℕ) (call : Calls) (m frame : ℕ) (inside : (function : ℕ) →
       place = omega arith
 
       by : (r : Run Way) → IfOn r (InSteps g call m frame inside claim xs (p + step_places x)) → IfOn (and_then r (λ way t. onward way t (act_all g call m frame xs))) (InSteps g call m frame inside claim ys (p + (step_places x + steps_places xs)))
-        → ((t : FPoint) → InSteps g call m frame inside claim xs (p + step_places x) t → IfOn (act_all g call m frame xs t) (InSteps g call m frame inside claim ys (p + step_places x + steps_places xs)) → InSteps g call m frame inside claim (xs +++ ys) (p + step_places x) t)
-        → IfOn r (InSteps g call m frame inside claim (xs +++ ys) (p + step_places x))
+          → ((t : FPoint) → InSteps g call m frame inside claim xs (p + step_places x) t → IfOn (act_all g call m frame xs t) (InSteps g call m frame inside claim ys (p + step_places x + steps_places xs)) → InSteps g call m frame inside claim (xs +++ ys) (p + step_places x) t)
+          → IfOn r (InSteps g call m frame inside claim (xs +++ ys) (p + step_places x))
       by (Answer.Goes Way.On t) a b more = more t a (subst (λ n. IfOn (act_all g call m frame xs t) (InSteps g call m frame inside claim ys n)) place b)
       by (Answer.Goes (Way.Out n) t) a b more = tt
       by (Answer.Goes (Way.Back n) t) a b more = tt
@@ -109,9 +109,11 @@ module _ (g : ℕ) (call : Calls) (m frame : ℕ) (functions : List FFunction) (
   mutual
     quiet_claim : (s : FStep) → quiet_step s ≡ true → (p : ℕ) (u : FPoint) → ranged p s u × InStep g call m frame inside ranged s p u
     quiet_claim (FStep.If c x y) h p u =
-        let r = both (quiet x) (quiet y) h in
-        (tt, claims_by_zero (u.words c) (InSteps g call m frame inside ranged y (p + 1 + steps_places x)) (InSteps g call m frame inside ranged x (p + 1)) u
-          (λ z. quiet_in y r.1 (p + 1 + steps_places x) u) (λ z. quiet_in x r.0 (p + 1) u))
+        let r = both (quiet x) (quiet y) h in (
+          tt,
+          claims_by_zero (u.words c) (InSteps g call m frame inside ranged y (p + 1 + steps_places x)) (InSteps g call m frame inside ranged x (p + 1)) u
+              (λ z. quiet_in y r.1 (p + 1 + steps_places x) u) (λ z. quiet_in x r.0 (p + 1) u),
+        )
     quiet_claim (FStep.Number to value) h p u = (tt, tt)
     quiet_claim (FStep.Arith to f l r) h p u = (tt, tt)
     quiet_claim (FStep.Slot to from) h p u = (tt, tt)
@@ -135,9 +137,11 @@ module _ (g : ℕ) (call : Calls) (m frame : ℕ) (functions : List FFunction) (
     quiet_in FSteps.none h p u = tt
     quiet_in (FSteps.more s rest) h p u =
         let r = both (quiet_step s) (quiet rest) h in
-        let t : FPoint = point u.words (spend (charge s) u.world) in
-        ((quiet_claim s r.0 p u).0, (quiet_claim s r.0 p t).1,
-         if_on_any (act g call m frame s t) (InSteps g call m frame inside ranged rest (p + step_places s)) (λ z. quiet_in rest r.1 (p + step_places s) z))
+        let t : FPoint = point u.words (spend (charge s) u.world) in (
+          (quiet_claim s r.0 p u).0,
+          (quiet_claim s r.0 p t).1,
+          if_on_any (act g call m frame s t) (InSteps g call m frame inside ranged rest (p + step_places s)) (λ z. quiet_in rest r.1 (p + step_places s) z),
+        )
 
 -- ---- Where steps come to
 
@@ -159,7 +163,7 @@ module _ (g : ℕ) (globals : List Block) (functions : List FFunction) (f : ℕ)
 
   -- steps come after others
   pub then_lands : (after mid : ℕ) (exits : List ℕ) (X Y Z : FPoint → Type 0) (go : FPoint → Run Way) → (r : Run Way) → Lands mid exits X r
-    → ((u : FPoint) → OkAt g globals functions f base w0 mid u → X u → Z u × Lands after exits Y (go u)) → IfOn r Z × Lands after exits Y (and_then r (λ way t. onward way t go))
+      → ((u : FPoint) → OkAt g globals functions f base w0 mid u → X u → Z u × Lands after exits Y (go u)) → IfOn r Z × Lands after exits Y (and_then r (λ way t. onward way t go))
   unfolding and_then
   then_lands after mid exits X Y Z go (Answer.Goes Way.On u) l h = h u l.0 l.1
   then_lands after mid exits X Y Z go (Answer.Goes (Way.Out n) u) l h = (tt, l)
@@ -180,9 +184,8 @@ module _ (g : ℕ) (globals : List Block) (functions : List FFunction) (f : ℕ)
 
   -- turns of a body that begins at a place and comes back to it
   module _ (p first after : ℕ) (exits : List ℕ) (body : FPoint → Run Way) (In : FPoint → Type 0)
-    (enter : (u : FPoint) → OkAt g globals functions f base w0 p u → OkAt g globals functions f base w0 first u)
-    (run : (u : FPoint) → OkAt g globals functions f base w0 first u → In u × Lands p (after ∷ exits) Any (body u)) where
-
+      (enter : (u : FPoint) → OkAt g globals functions f base w0 p u → OkAt g globals functions f base w0 first u)
+      (run : (u : FPoint) → OkAt g globals functions f base w0 first u → In u × Lands p (after ∷ exits) Any (body u)) where
     pub turns_land : (n : ℕ) (u : FPoint) → OkAt g globals functions f base w0 p u → InTurns n body In u × Lands after exits Any (turns n body u)
     unfolding and_then
     turns_land zero u at = (tt, at.kept.holds)
@@ -196,7 +199,7 @@ module _ (g : ℕ) (globals : List Block) (functions : List FFunction) (f : ℕ)
         same a b h = cc
 
         turn : (r : Run Way) → Lands p (after ∷ exits) Any r → ((v : FPoint) → OkAt g globals functions f base w0 p v → InTurns n body In v × Lands after exits Any (turns n body v))
-          → IfOn r (InTurns n body In) × Lands after exits Any (and_then r (λ way t. again way t (turns n body)))
+            → IfOn r (InTurns n body In) × Lands after exits Any (and_then r (λ way t. again way t (turns n body)))
         turn (Answer.Goes Way.On v) l more = more v l.0
         turn (Answer.Goes (Way.Out zero) v) l more = (tt, (subst (λ q. OkAt g globals functions f base w0 q v) (sym (same after l.0 l.1)) l.2, tt))
         turn (Answer.Goes (Way.Out (suc k)) v) l more = (tt, l)

@@ -1,6 +1,5 @@
 -- A closed table knows no fact that a chain shows to be lost.
 use Rattle.std.proofs.Common.{◌≡◌, ℕ, ◌+◌, List, ◌∷◌, inl, inr, Option, Some, Bool, true, false, refl, sym, ap, ◌∙◌, subst, true≢false}
-use Rattle.flat_code.specs.Code.{FStep}
 use Rattle.flat_verify.specs.Items.{Item, Items, places, all_places, first_place}
 use Rattle.flat_verify.specs.Facts.{Fact, Source, Setting, Here, untold, branch, here_after, source}
 use Rattle.flat_verify.specs.Chains.{leading, leads, Edges, IsEdge, Edge, EdgeAll, Spot, fact_in, Lost}
@@ -39,10 +38,11 @@ module _ (g : ℕ) (P : Edges) where
     edge_each (Item.Plain s) h p after exits on = on h (Item.Plain s) p (leads (leading s) after exits) (refl, refl, refl, refl)
     edge_each (Item.Checks q) h p after exits on = on h (Item.Checks q) p (Some after) (refl, refl, refl, refl)
     edge_each (Item.If k x y) h p after exits on = (
-        on h (Item.If k x y) p (Some (first_place x (p + 1) after)) (inl (inl (refl, refl, refl, refl))),
-        on h (Item.If k x y) p (Some (first_place y (p + 1 + all_places g x) after)) (inl (inr (refl, refl, refl, refl))),
-        edge_every x (branch h k) (p + 1) after exits (λ h' t a b e. on h' t a b (inr (inl e))),
-        edge_every y untold (p + 1 + all_places g x) after exits (λ h' t a b e. on h' t a b (inr (inr e))))
+      on h (Item.If k x y) p (Some (first_place x (p + 1) after)) (inl (inl (refl, refl, refl, refl))),
+      on h (Item.If k x y) p (Some (first_place y (p + 1 + all_places g x) after)) (inl (inr (refl, refl, refl, refl))),
+      edge_every x (branch h k) (p + 1) after exits (λ h' t a b e. on h' t a b (inr (inl e))),
+      edge_every y untold (p + 1 + all_places g x) after exits (λ h' t a b e. on h' t a b (inr (inr e))),
+    )
     edge_each (Item.Block x) h p after exits on = (on h (Item.Block x) p (Some (first_place x (p + 1) after)) (inl (refl, refl, refl, refl)), edge_every x untold (p + 1) after (after ∷ exits) (λ h' t a b e. on h' t a b (inr e)))
     edge_each (Item.Loop x) h p after exits on = (on h (Item.Loop x) p (Some (first_place x (p + 1) p)) (inl (refl, refl, refl, refl)), edge_every x untold (p + 1) p (after ∷ exits) (λ h' t a b e. on h' t a b (inr e)))
     edge_each (Item.Inner x) h p after exits on = (on h (Item.Inner x) p (Some (first_place x (p + 1) p)) (inl (refl, refl, refl, refl)), edge_every x untold (p + 1) p (after ∷ exits) (λ h' t a b e. on h' t a b (inr e)))

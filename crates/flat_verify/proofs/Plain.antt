@@ -1,5 +1,5 @@
 -- Plain steps of disciplined code.
-use Rattle.std.proofs.Common.{◌≡◌, ◌≢◌, ◌⊎◌, ℕ, zero, suc, ◌+◌, ◌-◌, ◌%◌, ◌^◌, ◌<◌, ◌≤◌, List, [], ◌∷◌, length, map, Option, Some, None, Bool, true, false, cond, inl, inr, refl, sym, ap, ◌∙◌, subst, ⊎_elim, arith, true≢false, nat_lt, nat_le}
+use Rattle.std.proofs.Common.{◌≡◌, ℕ, zero, suc, ◌+◌, ◌^◌, ◌<◌, ◌≤◌, List, [], ◌∷◌, length, map, Option, Some, None, Bool, true, false, refl, sym, ap, ◌∙◌, subst, ⊎_elim, arith, true≢false, nat_lt, nat_le}
 use Rattle.std.specs.Prelude.{◌==◌, ◌&&◌, ◌||◌, not, slice_get, if◌then◌else◌}
 use Rattle.std.proofs.lemmas.Bool.{eqb-true}
 use Rattle.std.proofs.lemmas.Bool.Decides.{eqb_tells}
@@ -9,22 +9,22 @@ use Rattle.bb_words.specs.Steps.{arith as arith_of, size_of_width}
 use Rattle.bb_words.specs.declared.steps.Width.{Width}
 use Rattle.size_table.specs.declared.memory_map.TheConstants.{HEAP_START}
 use Rattle.size_table.specs.Blocks.{Block}
-use Rattle.flat_code.specs.Code.{FStep, FSteps, FFunction}
+use Rattle.flat_code.specs.Code.{FStep, FFunction}
 use Rattle.flat_code.specs.Told.{Tell}
-use Rattle.flat_code.specs.World.{Words, with_word, with_bytes, bytes_of, read, FWorld, FPoint, point, put, spend, tell, choose, Ending, Run, Way}
+use Rattle.flat_code.specs.World.{Words, with_word, with_bytes, bytes_of, read, FWorld, FPoint, point, put, tell, choose, Ending, Run, Way}
 use Rattle.flat_code.specs.Run.{refusal, unless_refused, loaded, stored, Calls, act, environment}
 use Rattle.flat_verify.specs.Items.{Item}
 use Rattle.flat_verify.specs.Facts.{Fact, Source, Origin, Here, tell as tell_here, held_if, source, plain_source}
-use Rattle.flat_verify.specs.Chains.{Leading, leading, leads, Lost}
+use Rattle.flat_verify.specs.Chains.{leading, leads, Lost}
 use Rattle.flat_verify.specs.Breaks.{all_below, is_count, fits, is_plain, address, AddressLost}
 use Rattle.flat_verify.specs.Discipline.{params_in, setting, edges, LostAt, ResultLost}
 use Rattle.flat_verify.specs.Comes.{InStep}
 use Rattle.flat_verify.specs.Safe.{AreGlobals, IsInRange}
 use Rattle.flat_verify.proofs.Blocks.{both, lt_of, is_lt, ArePlaced, is_held, Within, Good, good_address}
 use Rattle.flat_verify.proofs.Worlds.{Laws, ever, Holds, Next}
-use Rattle.flat_verify.proofs.Acts.{accessed, Accessed, access_safe, width_divides, tell_next, EnvWent, EnvLands, env_lands}
+use Rattle.flat_verify.proofs.Acts.{accessed, access_safe, width_divides, tell_next, EnvWent, EnvLands, env_lands}
 use Rattle.flat_verify.proofs.Points.{set_same, set_other, SpannedBy, Base, OkAt, later, Says, SaysSpan, after as ok_after, says_if, says_span_if, HereHolds, untold_holds, OriginHolds, origin_if, number_good, sum_says, arith_holds}
-use Rattle.flat_verify.proofs.Lands.{by_zero, Lands, ranged}
+use Rattle.flat_verify.proofs.Lands.{Lands, ranged}
 
 module _ (g : ℕ) (globals : List Block) (functions : List FFunction) (laws : Laws) where
   -- ---- Calls
@@ -83,13 +83,13 @@ module _ (g : ℕ) (globals : List Block) (functions : List FFunction) (laws : L
 
     -- a step that sets a value and changes nothing else
     sets_to : (h : Here) (i : Item) (to x p after : ℕ) (t : FPoint) (o : Source) → edges g globals functions f h i p (Some after) → Ok p t
-      → ((v : ℕ) → source s h i (Fact.Clean v) ≡ (if v == to then o else Source.From (Fact.Clean v)))
-      → ((y n : ℕ) → source s h i (Fact.Spanned y n) ≡ Rattle.flat_verify.specs.Facts.gone_if ((y == to) || (n == to)) (Source.From (Fact.Spanned y n)))
-      → Says g globals functions f base w0 t (evr t.world) o x → Ok after (put to x t)
+        → ((v : ℕ) → source s h i (Fact.Clean v) ≡ (if v == to then o else Source.From (Fact.Clean v)))
+        → ((y n : ℕ) → source s h i (Fact.Spanned y n) ≡ Rattle.flat_verify.specs.Facts.gone_if ((y == to) || (n == to)) (Source.From (Fact.Spanned y n)))
+        → Says g globals functions f base w0 t (evr t.world) o x → Ok after (put to x t)
     sets_to h i to x p after t o edge at clean span says =
         ok_after g globals functions f base w0 h i p after t (put to x t) edge at at.kept (λ k y. y)
-          (λ v in_. subst (λ z. Says g globals functions f base w0 t (evr t.world) z (with_word t.words to x v)) (sym (clean v)) (says_if g globals functions f base w0 t (evr t.world) o to x says v in_))
-          (λ y n in_. subst (λ z. SaysSpan g globals functions f base w0 t (put to x t) z y n) (sym (span y n)) (says_span_if g globals functions f base w0 t (put to x t) to x refl refl y n in_))
+        (λ v in_. subst (λ z. Says g globals functions f base w0 t (evr t.world) z (with_word t.words to x v)) (sym (clean v)) (says_if g globals functions f base w0 t (evr t.world) o to x says v in_))
+        (λ y n in_. subst (λ z. SaysSpan g globals functions f base w0 t (put to x t) z y n) (sym (span y n)) (says_span_if g globals functions f base w0 t (put to x t) to x refl refl y n in_))
 
     here_set : (h : Here) (o : Origin) (to x : ℕ) (ws : Words) → HereHolds g globals functions f base w0 h ws → OriginHolds g globals functions f base w0 o x → HereHolds g globals functions f base w0 (record { guard = Rattle.flat_verify.specs.Facts.Guard.Free; test = λ c. Rattle.flat_verify.specs.Facts.Guard.Free; origin = λ v. if v == to then o else h.origin v }) (with_word ws to x)
     here_set h o to x ws k y = record { guard = tt; test = λ c. tt; origin = λ v. origin_if g globals functions f base w0 h o to x ws k y v }
@@ -100,11 +100,11 @@ module _ (g : ℕ) (globals : List Block) (functions : List FFunction) (laws : L
 
     -- a step that sets nothing, and leaves the blocks
     keeps_all : (h : Here) (i : Item) (p after : ℕ) (t v : FPoint) → edges g globals functions f h i p (Some after) → Ok p t → ((x : Fact) → source s h i x ≡ Source.From x)
-      → v.words ≡ t.words → v.world.live ≡ t.world.live → v.world.stack ≡ t.world.stack → Next g globals laws t.world v.world → Ok after v
+        → v.words ≡ t.words → v.world.live ≡ t.world.live → v.world.stack ≡ t.world.stack → Next g globals laws t.world v.world → Ok after v
     keeps_all h i p after t v edge at is words live stack next =
         ok_after g globals functions f base w0 h i p after t v edge at (later g globals functions f base w0 t.world v.world at.kept next.holds next.grows stack) next.grows
-          (λ x in_. subst (λ z. Says g globals functions f base w0 t (evr v.world) z (v.words x)) (sym (is (Fact.Clean x))) (in_, λ y. subst (λ (ws : Words). Good g (evr v.world) (ws x)) (sym words) y))
-          (λ x n in_. subst (λ z. SaysSpan g globals functions f base w0 t v z x n) (sym (is (Fact.Spanned x n))) (in_, λ y. subst (λ l. SpannedBy g l (v.words x) (v.words n)) (sym live) (subst (λ (ws : Words). SpannedBy g t.world.live (ws x) (ws n)) (sym words) y)))
+        (λ x in_. subst (λ z. Says g globals functions f base w0 t (evr v.world) z (v.words x)) (sym (is (Fact.Clean x))) (in_, λ y. subst (λ (ws : Words). Good g (evr v.world) (ws x)) (sym words) y))
+        (λ x n in_. subst (λ z. SaysSpan g globals functions f base w0 t v z x n) (sym (is (Fact.Spanned x n))) (in_, λ y. subst (λ l. SpannedBy g l (v.words x) (v.words n)) (sym live) (subst (λ (ws : Words). SpannedBy g t.world.live (ws x) (ws n)) (sym words) y)))
 
     -- ---- Loads and stores
 
@@ -120,8 +120,8 @@ module _ (g : ℕ) (globals : List Block) (functions : List FFunction) (laws : L
         let hv : Holds g globals v = Rattle.flat_verify.proofs.Worlds.same_holds g globals t.world v told live (subst (λ n. n ≤ HEAP_START) (sym stack) holds.stack) holds in
         let safe = access_safe g t.world.live (evr t.world) a size k.0 write k.1 k.2 holds.placed holds.placed_ever good r.0 r.1 r.2 in
         let n = tell_next g globals laws slot known.high v (Tell.Access a size write) hv refl refl
-          (subst (λ l. Rattle.flat_code.specs.Safety.IsSafe g l (evr v) (Tell.Access a size write)) (sym live)
-            (subst (λ (x : List Rattle.flat_code.specs.Told.Stamped). Rattle.flat_code.specs.Safety.IsSafe g t.world.live (Rattle.flat_code.specs.Safety.ever_of globals (Rattle.flat_code.specs.Told.tells x)) (Tell.Access a size write)) (sym told) safe)) in
+        (subst (λ l. Rattle.flat_code.specs.Safety.IsSafe g l (evr v) (Tell.Access a size write)) (sym live)
+        (subst (λ (x : List Rattle.flat_code.specs.Told.Stamped). Rattle.flat_code.specs.Safety.IsSafe g t.world.live (Rattle.flat_code.specs.Safety.ever_of globals (Rattle.flat_code.specs.Told.tells x)) (Tell.Access a size write)) (sym told) safe)) in
         record { holds = n.holds; grows = λ j y. n.grows j (subst (λ (x : List Rattle.flat_code.specs.Told.Stamped). is_held g (Rattle.flat_code.specs.Safety.ever_of globals (Rattle.flat_code.specs.Told.tells x)) j ≡ true) (sym told) y) }
 
     load_fares : (h : Here) (to v : ℕ) (w : Width) (p after : ℕ) (exits : List ℕ) (t : FPoint) → edges g globals functions f h (Item.Plain (FStep.Load to v w)) p (Some after) → nat_lt v s.values ≡ true → (L p (Fact.Clean v) → ⊥) → Ok p t → HereHolds g globals functions f base w0 h t.words → Fares h (FStep.Load to v w) p after exits t
@@ -136,11 +136,12 @@ module _ (g : ℕ) (globals : List Block) (functions : List FFunction) (laws : L
             let x = read w t.world.memory (t.words v) in
             let next = touched t t.world (t.words v) w false at.kept.holds refl refl refl (at.good v in_ fine) is in
             let u : FPoint = point t.words (tell (Tell.Access (t.words v) (size_of_width w) false) t.world) in
-            let q : FPoint = put to x u in
-            (ok_after g globals functions f base w0 h (Item.Plain (FStep.Load to v w)) p after t q edge at (later g globals functions f base w0 t.world q.world at.kept next.holds next.grows refl) next.grows
-              (λ y i. says_if g globals functions f base w0 t (evr q.world) Source.Gone to x tt y i)
-              (λ y n i. says_span_if g globals functions f base w0 t q to x refl refl y n i),
-             here_set h Origin.Other to x t.words k tt)
+            let q : FPoint = put to x u in (
+              ok_after g globals functions f base w0 h (Item.Plain (FStep.Load to v w)) p after t q edge at (later g globals functions f base w0 t.world q.world at.kept next.holds next.grows refl) next.grows
+                  (λ y i. says_if g globals functions f base w0 t (evr q.world) Source.Gone to x tt y i)
+                  (λ y n i. says_span_if g globals functions f base w0 t q to x refl refl y n i),
+              here_set h Origin.Other to x t.words k tt,
+            )
 
     store_fares : (h : Here) (v from : ℕ) (w : Width) (p after : ℕ) (exits : List ℕ) (t : FPoint) → edges g globals functions f h (Item.Plain (FStep.Store v from w)) p (Some after) → nat_lt v s.values ≡ true → (L p (Fact.Clean v) → ⊥) → Ok p t → HereHolds g globals functions f base w0 h t.words → Fares h (FStep.Store v from w) p after exits t
     store_fares h v from w p after exits t edge in_ fine at k =
@@ -152,9 +153,10 @@ module _ (g : ℕ) (globals : List Block) (functions : List FFunction) (laws : L
         by (Some e) is = at.kept.holds
         by None is =
             let u : FWorld = record t.world { memory = with_bytes t.world.memory (t.words v) (bytes_of (size_of_width w) (t.words from)) } in
-            let next = touched t u (t.words v) w true at.kept.holds refl refl refl (at.good v in_ fine) is in
-            (keeps_all h (Item.Plain (FStep.Store v from w)) p after t (point t.words (tell (Tell.Access (t.words v) (size_of_width w) true) u)) edge at (is_from) refl refl refl next,
-             here_kept h t.words k)
+            let next = touched t u (t.words v) w true at.kept.holds refl refl refl (at.good v in_ fine) is in (
+              keeps_all h (Item.Plain (FStep.Store v from w)) p after t (point t.words (tell (Tell.Access (t.words v) (size_of_width w) true) u)) edge at (is_from) refl refl refl next,
+              here_kept h t.words k,
+            )
           where
             is_from : (x : Fact) → source s h (Item.Plain (FStep.Store v from w)) x ≡ Source.From x
             is_from (Fact.Clean x) = refl
@@ -170,10 +172,14 @@ module _ (g : ℕ) (globals : List Block) (functions : List FFunction) (laws : L
         let is : x ≡ base + offset = ap (λ n. n + offset) at.kept.stack in
         let small : base + offset < 2 ^ 31 = omega (arith, lt, at.kept.room) in
         let good : Good g (evr t.world) x = subst (Good g (evr t.world)) (sym is) (good_address g (evr t.world) (base + offset) small (at.kept.frame offset lt)) in
-        let test : nat_lt offset bytes ≡ true = ap (λ n. nat_lt offset n) same_bytes ∙ in_ in
-        (lt, tt, subst (λ b. Lands g globals functions f base w0 after exits (λ z. HereHolds g globals functions f base w0 (tell_here h (FStep.FrameAt to offset)) z.words) (choose b (λ z. Answer.Goes Way.On (put to (z.world.stack + offset) z)) (λ z. Answer.Ends Ending.Cut z) t)) (sym test)
-          (sets_to h (Item.Plain (FStep.FrameAt to offset)) to x p after t Source.Held edge at (λ v. refl) (λ y n. refl) good,
-           here_set h (Origin.InFrame offset) to x t.words k is))
+        let test : nat_lt offset bytes ≡ true = ap (λ n. nat_lt offset n) same_bytes ∙ in_ in (
+          lt,
+          tt,
+          subst (λ b. Lands g globals functions f base w0 after exits (λ z. HereHolds g globals functions f base w0 (tell_here h (FStep.FrameAt to offset)) z.words) (choose b (λ z. Answer.Goes Way.On (put to (z.world.stack + offset) z)) (λ z. Answer.Ends Ending.Cut z) t)) (sym test) (
+            sets_to h (Item.Plain (FStep.FrameAt to offset)) to x p after t Source.Held edge at (λ v. refl) (λ y n. refl) good,
+            here_set h (Origin.InFrame offset) to x t.words k is,
+          ),
+        )
 
     env_fares : (h : Here) (to n a b : ℕ) (p after : ℕ) (exits : List ℕ) (t : FPoint) → edges g globals functions f h (Item.Plain (FStep.Env to n a b)) p (Some after) → Ok p t → HereHolds g globals functions f base w0 h t.words → Fares h (FStep.Env to n a b) p after exits t
     env_fares h to n a b p after exits t edge at k = (tt, tt, by (environment g to n (t.words a) (t.words b) t) (env_lands g globals laws slot known.high t at.kept.holds to n (t.words a) (t.words b)))
@@ -181,16 +187,17 @@ module _ (g : ℕ) (globals : List Block) (functions : List FFunction) (laws : L
         clean : (v : FPoint) → EnvWent g globals laws slot known.high t to n v → (x : ℕ) → nat_lt x s.values ≡ true → Says g globals functions f base w0 t (evr v.world) (source s h (Item.Plain (FStep.Env to n a b)) (Fact.Clean x)) (v.words x)
         clean v went x in_ =
             subst (λ (ws : Words). Says g globals functions f base w0 t (evr v.world) (source s h (Item.Plain (FStep.Env to n a b)) (Fact.Clean x)) (ws x)) (sym went.words)
-              (says_if g globals functions f base w0 t (evr v.world) (held_if (n == 4) Source.Gone) to went.word
-                (⊎_elim (λ e. subst (λ z. Says g globals functions f base w0 t (evr v.world) (held_if z Source.Gone) went.word) (sym e.0) (went.good e.1))
-                        (λ e. subst (λ z. Says g globals functions f base w0 t (evr v.world) (held_if z Source.Gone) went.word) (sym e.0) tt)
-                        (eqb_tells n 4)) x in_)
+            (says_if g globals functions f base w0 t (evr v.world) (held_if (n == 4) Source.Gone) to went.word
+            (⊎_elim (λ e. subst (λ z. Says g globals functions f base w0 t (evr v.world) (held_if z Source.Gone) went.word) (sym e.0) (went.good e.1))
+            (λ e. subst (λ z. Says g globals functions f base w0 t (evr v.world) (held_if z Source.Gone) went.word) (sym e.0) tt)
+            (eqb_tells n 4)) x in_)
 
         by : (r : Run Way) → EnvLands g globals laws slot known.high t to n r → Lands g globals functions f base w0 after exits (λ z. HereHolds g globals functions f base w0 (tell_here h (FStep.Env to n a b)) z.words) r
-        by (Answer.Goes Way.On v) went =
-            (ok_after g globals functions f base w0 h (Item.Plain (FStep.Env to n a b)) p after t v edge at (later g globals functions f base w0 t.world v.world at.kept went.next.holds went.next.grows went.stack) went.next.grows
+        by (Answer.Goes Way.On v) went = (
+          ok_after g globals functions f base w0 h (Item.Plain (FStep.Env to n a b)) p after t v edge at (later g globals functions f base w0 t.world v.world at.kept went.next.holds went.next.grows went.stack) went.next.grows
               (clean v went) (λ x m in_. tt),
-             subst (λ (ws : Words). HereHolds g globals functions f base w0 (tell_here h (FStep.Env to n a b)) ws) (sym went.words) (here_set h Origin.Other to went.word t.words k tt))
+          subst (λ (ws : Words). HereHolds g globals functions f base w0 (tell_here h (FStep.Env to n a b)) ws) (sym went.words) (here_set h Origin.Other to went.word t.words k tt),
+        )
         by (Answer.Goes (Way.Out j) v) went = absurd went
         by (Answer.Goes (Way.Back j) v) went = absurd went
         by (Answer.Ends e v) holds = holds
@@ -219,12 +226,13 @@ module _ (g : ℕ) (globals : List Block) (functions : List FFunction) (laws : L
         words = map t.words args
 
         went : (word : ℕ) (v : FPoint) → CallWent number t word v → Lands g globals functions f base w0 after exits (λ z. HereHolds g globals functions f base w0 (tell_here h (FStep.Call to number args)) z.words) (Answer.Goes Way.On (put to word v))
-        went word v w =
-            (ok_after g globals functions f base w0 h (Item.Plain (FStep.Call to number args)) p after t (put to word v) edge at (later g globals functions f base w0 t.world v.world at.kept w.next.holds w.next.grows w.stack) w.next.grows
+        went word v w = (
+          ok_after g globals functions f base w0 h (Item.Plain (FStep.Call to number args)) p after t (put to word v) edge at (later g globals functions f base w0 t.world v.world at.kept w.next.holds w.next.grows w.stack) w.next.grows
               (λ x i. subst (λ (ws : Words). Says g globals functions f base w0 t (evr v.world) (source s h (Item.Plain (FStep.Call to number args)) (Fact.Clean x)) (with_word ws to word x)) (sym w.words)
-                (says_if g globals functions f base w0 t (evr v.world) (Source.FromCall number) to word w.good x i))
+              (says_if g globals functions f base w0 t (evr v.world) (Source.FromCall number) to word w.good x i))
               (λ x n i. tt),
-             subst (λ (ws : Words). HereHolds g globals functions f base w0 (tell_here h (FStep.Call to number args)) (with_word ws to word)) (sym w.words) (here_set h Origin.Other to word t.words k tt))
+          subst (λ (ws : Words). HereHolds g globals functions f base w0 (tell_here h (FStep.Call to number args)) (with_word ws to word)) (sym w.words) (here_set h Origin.Other to word t.words k tt),
+        )
 
         landed : (r : Run ℕ) → CallLands number t r → Lands g globals functions f base w0 after exits (λ z. HereHolds g globals functions f base w0 (tell_here h (FStep.Call to number args)) z.words) (and_then r (λ word v. Answer.Goes Way.On (put to word v)))
         landed (Answer.Goes word v) w = went word v w
@@ -237,7 +245,7 @@ module _ (g : ℕ) (globals : List Block) (functions : List FFunction) (laws : L
             let lt : j < fn.params = omega (arith, below, count) in
             let values : nat_lt j (setting g globals functions number).values ≡ true = ap (λ o. nat_lt j (Rattle.flat_verify.specs.Discipline.values_in o)) is ∙ is_lt j fn.values (let z = known.params number fn is in omega (arith, z, lt)) in
             subst (Good g (evr t.world)) (sym m.2) (at.good m.0 (all_in s.values args in_ j m.0 m.1)
-              (λ l. nt (Lost.passed f to number j m.0 fn.params args h p (Some after) edge m.1 (ap params_in is) lt values l)))
+            (λ l. nt (Lost.passed f to number j m.0 fn.params args h p (Some after) edge m.1 (ap params_in is) lt values l)))
 
         of_function : (o : Option FFunction) → slice_get functions number ≡ o → is_count (params_in o) (length args) ≡ true → Fares h (FStep.Call to number args) p after exits t
         of_function None is c = absurd (true≢false (sym c))
@@ -267,23 +275,38 @@ module _ (g : ℕ) (globals : List Block) (functions : List FFunction) (laws : L
     got_exit (x ∷ xs) (suc n) lt = got_exit xs n (let z : n < length xs = omega (arith, lt) in z)
 
     pub plain_fares : (h : Here) (x : FStep) (p after : ℕ) (exits : List ℕ) (t : FPoint) → Edge h x p after exits → (fits s (length exits) x && is_plain x) ≡ true → (AddressLost (L p) (address x) → ⊥) → Ok p t → HereHolds g globals functions f base w0 h t.words → Fares h x p after exits t
-    plain_fares h (FStep.Number to value) p after exits t edge fit fine at k =
-        (tt, tt, (sets_to h (Item.Plain (FStep.Number to value)) to value p after t (held_if ((value == 0) || Rattle.flat_verify.specs.Facts.lies_in globals value) Source.Gone) edge at (λ v. refl) (λ y n. refl)
-          (number_good g globals functions f base w0 h t at.kept k known.globals_are slot (global_held p t at) value),
-          here_set h (Origin.Constant value) to value t.words k refl))
+    plain_fares h (FStep.Number to value) p after exits t edge fit fine at k = (
+      tt,
+      tt,
+      (
+        sets_to h (Item.Plain (FStep.Number to value)) to value p after t (held_if ((value == 0) || Rattle.flat_verify.specs.Facts.lies_in globals value) Source.Gone) edge at (λ v. refl) (λ y n. refl)
+            (number_good g globals functions f base w0 h t at.kept k known.globals_are slot (global_held p t at) value),
+        here_set h (Origin.Constant value) to value t.words k refl,
+      ),
+    )
     plain_fares h (FStep.Same to from) p after exits t edge fit fine at k =
         let r = both (nat_lt to s.values && nat_lt from s.values) true fit in
-        let i = both (nat_lt to s.values) (nat_lt from s.values) r.0 in
-        (tt, tt, (sets_to h (Item.Plain (FStep.Same to from)) to (t.words from) p after t (Source.From (Fact.Clean from)) edge at (λ v. refl) (λ y n. refl) (i.1, λ y. y),
-          here_set h Origin.Other to (t.words from) t.words k tt))
+        let i = both (nat_lt to s.values) (nat_lt from s.values) r.0 in (
+          tt,
+          tt,
+          (
+            sets_to h (Item.Plain (FStep.Same to from)) to (t.words from) p after t (Source.From (Fact.Clean from)) edge at (λ v. refl) (λ y n. refl) (i.1, λ y. y),
+            here_set h Origin.Other to (t.words from) t.words k tt,
+          ),
+        )
     plain_fares h (FStep.Arith to o l r) p after exits t edge fit fine at k =
         let a = both (nat_lt to s.values && (nat_lt l s.values && nat_lt r s.values)) true fit in
         let b = both (nat_lt to s.values) (nat_lt l s.values && nat_lt r s.values) a.0 in
         let c = both (nat_lt l s.values) (nat_lt r s.values) b.1 in
-        let x = arith_of o (t.words l) (t.words r) in
-        (tt, tt, (sets_to h (Item.Plain (FStep.Arith to o l r)) to x p after t (Rattle.flat_verify.specs.Facts.sum_of s h o l r) edge at (λ v. refl) (λ y n. refl)
-          (sum_says g globals functions f base w0 h t at.kept k known.globals_are slot (global_held p t at) o l r c.0),
-          arith_holds g globals functions f base w0 h o to l r t.words k c.1))
+        let x = arith_of o (t.words l) (t.words r) in (
+          tt,
+          tt,
+          (
+            sets_to h (Item.Plain (FStep.Arith to o l r)) to x p after t (Rattle.flat_verify.specs.Facts.sum_of s h o l r) edge at (λ v. refl) (λ y n. refl)
+                (sum_says g globals functions f base w0 h t at.kept k known.globals_are slot (global_held p t at) o l r c.0),
+            arith_holds g globals functions f base w0 h o to l r t.words k c.1,
+          ),
+        )
     plain_fares h (FStep.If c a b) p after exits t edge fit fine at k = absurd (true≢false (sym (both (nat_lt c s.values) false fit).1))
     plain_fares h (FStep.Block a) p after exits t edge fit fine at k = absurd (true≢false (sym fit))
     plain_fares h (FStep.Loop a) p after exits t edge fit fine at k = absurd (true≢false (sym fit))

@@ -1,9 +1,8 @@
 -- What is kept at each place of a function: untainted values are good, and spans stand.
-use Rattle.std.proofs.Common.{◌≡◌, ◌≢◌, ◌⊎◌, ℕ, zero, suc, ◌+◌, ◌-◌, ◌*◌, ◌/◌, ◌%◌, ◌^◌, ◌<◌, ◌≤◌, List, [], ◌∷◌, ◌++◌, length, Option, Some, None, Bool, true, false, cond, inl, inr, refl, sym, ap, ◌∙◌, subst, ⊎_elim, arith, true≢false, pow_pos, nat_lt, nat_le}
-use Rattle.std.specs.Prelude.{◌==◌, ◌&&◌, ◌||◌, not, slice_get, bit_and, if◌then◌else◌}
+use Rattle.std.proofs.Common.{◌≡◌, ◌≢◌, ◌⊎◌, ℕ, ◌+◌, ◌-◌, ◌/◌, ◌%◌, ◌^◌, ◌<◌, ◌≤◌, List, [], ◌∷◌, Some, Bool, true, false, cond, inl, inr, refl, sym, ap, ◌∙◌, subst, ⊎_elim, arith, true≢false, nat_lt, nat_le}
+use Rattle.std.specs.Prelude.{◌==◌, ◌&&◌, ◌||◌, not, bit_and, if◌then◌else◌}
 use Rattle.std.proofs.lemmas.Nat.{and_le_r}
-use Rattle.std.proofs.lemmas.Bool.Decides.{nat_tests, eqb_tells}
-use Rattle.bb_words.specs.Answers.{Answer}
+use Rattle.std.proofs.lemmas.Bool.Decides.{eqb_tells}
 use Rattle.bb_words.specs.Steps.{arith as arith_of}
 use Rattle.bb_words.specs.declared.steps.ArithOp.{ArithOp}
 use Rattle.bb_words.specs.declared.steps.ArithOp.TheVariants as op
@@ -12,15 +11,15 @@ use Rattle.marked_ptr.specs.Laws.{IsPlaced}
 use Rattle.size_table.specs.declared.memory_map.TheConstants.{HEAP_START, GLOBALS_START}
 use Rattle.size_table.specs.Blocks.{Block, holds, end_of}
 use Rattle.size_table.specs.Made.{blocks_from}
-use Rattle.flat_code.specs.Code.{FStep, FSteps, FFunction}
-use Rattle.flat_code.specs.World.{Words, with_word, FWorld, FPoint, point, spend, Ending, Run, Way}
+use Rattle.flat_code.specs.Code.{FStep, FFunction}
+use Rattle.flat_code.specs.World.{Words, with_word, FWorld, FPoint, point, spend}
 use Rattle.flat_code.specs.Accounts.{frame_size}
 use Rattle.flat_verify.specs.Items.{Item}
-use Rattle.flat_verify.specs.Facts.{Fact, Source, Setting, Guard, Origin, Here, untold, branch, sets, set_by, masked_by, masked_if, kept_unless, guard_past, test_if, test_after, tell, lies_in, reach_past, is_masked, held_if, gone_if, element, sum_of, clean_of, plain_source, source}
-use Rattle.flat_verify.specs.Chains.{fact_in, Spot, Lost}
+use Rattle.flat_verify.specs.Facts.{Fact, Source, Setting, Guard, Origin, Here, untold, branch, masked_by, masked_if, kept_unless, guard_past, test_if, tell, lies_in, reach_past, is_masked, held_if, gone_if, element, sum_of, source}
+use Rattle.flat_verify.specs.Chains.{fact_in, Lost}
 use Rattle.flat_verify.specs.Discipline.{setting, edges, LostAt, ResultLost}
 use Rattle.flat_verify.specs.Safe.{AreGlobals}
-use Rattle.flat_verify.proofs.Blocks.{both, two, le_of, lt_of, ge_of, is_le, is_lt, ArePlaced, is_held, Within, holds_slot, holds_tells, holds_address, Holder, holder_of, Good, good_more, good_address}
+use Rattle.flat_verify.proofs.Blocks.{both, two, le_of, lt_of, ArePlaced, is_held, Within, holds_slot, Good, good_more, good_address}
 use Rattle.flat_verify.proofs.Worlds.{lies_from, reach_tells, frame_held, globals_placed, ever, Holds, same_holds}
 
 -- ---- Words that are set
@@ -92,14 +91,19 @@ module _ (g : ℕ) (globals : List Block) (functions : List FFunction) (f : ℕ)
 
   pub spent : (p n : ℕ) (u : FPoint) → OkAt p u → OkAt p (point u.words (spend n u.world))
   spent p n u at = record {
-    good = at.good; spans = at.spans;
+    good = at.good;
+    spans = at.spans;
     kept = record { holds = same_holds g globals u.world (spend n u.world) refl refl at.kept.holds.stack at.kept.holds; stack = at.kept.stack; grows = at.kept.grows; frame = at.kept.frame; room = at.kept.room };
   }
 
   -- a later world with the same stack number
   pub later : (w v : FWorld) → Base w → Holds g globals v → Within g (ever g globals w) (ever g globals v) → v.stack ≡ w.stack → Base v
   later w v b holds grows stack = record {
-    holds = holds; stack = stack ∙ b.stack; grows = λ t x. grows t (b.grows t x); frame = λ o lt. grows ((base + o) / 2 ^ g) (b.frame o lt); room = b.room;
+    holds = holds;
+    stack = stack ∙ b.stack;
+    grows = λ t x. grows t (b.grows t x);
+    frame = λ o lt. grows ((base + o) / 2 ^ g) (b.frame o lt);
+    room = b.room;
   }
 
   -- ---- From a fact's source to the fact
@@ -122,14 +126,14 @@ module _ (g : ℕ) (globals : List Block) (functions : List FFunction) (f : ℕ)
   SaysSpan u v (Source.FromCall k) x n = ⊥
 
   pub after : (h : Here) (i : Item) (p q : ℕ) (u v : FPoint) → edges g globals functions f h i p (Some q) → OkAt p u → Base v.world → Within g (ever g globals u.world) (ever g globals v.world)
-    → ((x : ℕ) → nat_lt x V ≡ true → Says u (ever g globals v.world) (source s h i (Fact.Clean x)) (v.words x))
-    → ((x n : ℕ) → fact_in s (Fact.Spanned x n) ≡ true → SaysSpan u v (source s h i (Fact.Spanned x n)) x n)
-    → OkAt q v
+      → ((x : ℕ) → nat_lt x V ≡ true → Says u (ever g globals v.world) (source s h i (Fact.Clean x)) (v.words x))
+      → ((x n : ℕ) → fact_in s (Fact.Spanned x n) ≡ true → SaysSpan u v (source s h i (Fact.Spanned x n)) x n)
+      → OkAt q v
   after h i p q u v edge at kept grows says says_span = record {
-      good = λ x in_ nt. good_by x in_ nt (source s h i (Fact.Clean x)) refl (says x in_);
-      spans = λ x n in_ nt. span_by x n in_ nt (source s h i (Fact.Spanned x n)) refl (says_span x n in_);
-      kept = kept;
-    }
+    good = λ x in_ nt. good_by x in_ nt (source s h i (Fact.Clean x)) refl (says x in_);
+    spans = λ x n in_ nt. span_by x n in_ nt (source s h i (Fact.Spanned x n)) refl (says_span x n in_);
+    kept = kept;
+  }
     where
       good_by : (x : ℕ) → nat_lt x V ≡ true → (LostAt g globals functions f q (Fact.Clean x) → ⊥) → (o : Source) → source s h i (Fact.Clean x) ≡ o → Says u (ever g globals v.world) o (v.words x) → Good g (ever g globals v.world) (v.words x)
       good_by x in_ nt Source.Held is y = y
@@ -150,26 +154,28 @@ module _ (g : ℕ) (globals : List Block) (functions : List FFunction) (f : ℕ)
   -- a construct changes nothing by itself
   pub flow : (h : Here) (i : Item) (p q : ℕ) (u : FPoint) → edges g globals functions f h i p (Some q) → ((x : Fact) → source s h i x ≡ Source.From x) → OkAt p u → OkAt q u
   flow h i p q u edge is at = after h i p q u u edge at at.kept (λ t x. x)
-    (λ x in_. subst (λ o. Says u (ever g globals u.world) o (u.words x)) (sym (is (Fact.Clean x))) (in_, λ y. y))
-    (λ x n in_. subst (λ o. SaysSpan u u o x n) (sym (is (Fact.Spanned x n))) (in_, λ y. y))
+      (λ x in_. subst (λ o. Says u (ever g globals u.world) o (u.words x)) (sym (is (Fact.Clean x))) (in_, λ y. y))
+      (λ x n in_. subst (λ o. SaysSpan u u o x n) (sym (is (Fact.Spanned x n))) (in_, λ y. y))
 
   -- ---- One value is set
 
   pub says_if : (u : FPoint) (ev : List Block) (o : Source) (to x : ℕ) → Says u ev o x → (v : ℕ) → nat_lt v V ≡ true → Says u ev (if v == to then o else Source.From (Fact.Clean v)) (with_word u.words to x v)
   says_if u ev o to x says v in_ = ⊎_elim
-    (λ h. subst (λ t. Says u ev (cond t o (Source.From (Fact.Clean v))) (with_word u.words to x v)) (sym h.0) (subst (Says u ev o) (sym (set_same u.words to v x h.1)) says))
-    (λ h. subst (λ t. Says u ev (cond t o (Source.From (Fact.Clean v))) (with_word u.words to x v)) (sym h.0) (in_, λ y. subst (Good g ev) (sym (set_other u.words to v x h.1)) y))
-    (eqb_tells v to)
+      (λ h. subst (λ t. Says u ev (cond t o (Source.From (Fact.Clean v))) (with_word u.words to x v)) (sym h.0) (subst (Says u ev o) (sym (set_same u.words to v x h.1)) says))
+      (λ h. subst (λ t. Says u ev (cond t o (Source.From (Fact.Clean v))) (with_word u.words to x v)) (sym h.0) (in_, λ y. subst (Good g ev) (sym (set_other u.words to v x h.1)) y))
+      (eqb_tells v to)
 
   pub says_span_if : (u v : FPoint) (to word : ℕ) → v.words ≡ with_word u.words to word → v.world.live ≡ u.world.live → (x n : ℕ) → fact_in s (Fact.Spanned x n) ≡ true → SaysSpan u v (gone_if ((x == to) || (n == to)) (Source.From (Fact.Spanned x n))) x n
   says_span_if u v to word words live x n in_ = ⊎_elim
       (λ h. subst (λ t. SaysSpan u v (gone_if (t || (n == to)) (Source.From (Fact.Spanned x n))) x n) (sym h.0) tt)
       (λ h. ⊎_elim
-        (λ k. subst (λ t. SaysSpan u v (gone_if (t || (n == to)) (Source.From (Fact.Spanned x n))) x n) (sym h.0) (subst (λ t. SaysSpan u v (gone_if t (Source.From (Fact.Spanned x n))) x n) (sym k.0) tt))
-        (λ k. subst (λ t. SaysSpan u v (gone_if (t || (n == to)) (Source.From (Fact.Spanned x n))) x n) (sym h.0) (subst (λ t. SaysSpan u v (gone_if t (Source.From (Fact.Spanned x n))) x n) (sym k.0)
-          (in_, λ y. subst (λ l. SpannedBy g l (v.words x) (v.words n)) (sym live) (subst (λ (ws : Words). SpannedBy g u.world.live (ws x) (ws n)) (sym words)
-            (subst (λ z. SpannedBy g u.world.live z (with_word u.words to word n)) (sym (set_other u.words to x word h.1)) (subst (λ z. SpannedBy g u.world.live (u.words x) z) (sym (set_other u.words to n word k.1)) y))))))
-        (eqb_tells n to))
+      (λ k. subst (λ t. SaysSpan u v (gone_if (t || (n == to)) (Source.From (Fact.Spanned x n))) x n) (sym h.0) (subst (λ t. SaysSpan u v (gone_if t (Source.From (Fact.Spanned x n))) x n) (sym k.0) tt))
+      (λ k. subst (λ t. SaysSpan u v (gone_if (t || (n == to)) (Source.From (Fact.Spanned x n))) x n) (sym h.0) (subst (λ t. SaysSpan u v (gone_if t (Source.From (Fact.Spanned x n))) x n) (sym k.0) (
+        in_,
+        λ y. subst (λ l. SpannedBy g l (v.words x) (v.words n)) (sym live) (subst (λ (ws : Words). SpannedBy g u.world.live (ws x) (ws n)) (sym words)
+            (subst (λ z. SpannedBy g u.world.live z (with_word u.words to word n)) (sym (set_other u.words to x word h.1)) (subst (λ z. SpannedBy g u.world.live (u.words x) z) (sym (set_other u.words to n word k.1)) y))),
+      )))
+      (eqb_tells n to))
       (eqb_tells x to)
 
   -- ---- What a list tells
@@ -206,9 +212,9 @@ module _ (g : ℕ) (globals : List Block) (functions : List FFunction) (f : ℕ)
 
   pub origin_if : (h : Here) (o : Origin) (to x : ℕ) (ws : Words) → HereHolds h ws → OriginHolds o x → (v : ℕ) → OriginHolds (if v == to then o else h.origin v) (with_word ws to x v)
   origin_if h o to x ws k y v = ⊎_elim
-    (λ e. subst (λ t. OriginHolds (cond t o (h.origin v)) (with_word ws to x v)) (sym e.0) (subst (OriginHolds o) (sym (set_same ws to v x e.1)) y))
-    (λ e. subst (λ t. OriginHolds (cond t o (h.origin v)) (with_word ws to x v)) (sym e.0) (subst (OriginHolds (h.origin v)) (sym (set_other ws to v x e.1)) (k.origin v)))
-    (eqb_tells v to)
+      (λ e. subst (λ t. OriginHolds (cond t o (h.origin v)) (with_word ws to x v)) (sym e.0) (subst (OriginHolds o) (sym (set_same ws to v x e.1)) y))
+      (λ e. subst (λ t. OriginHolds (cond t o (h.origin v)) (with_word ws to x v)) (sym e.0) (subst (OriginHolds (h.origin v)) (sym (set_other ws to v x e.1)) (k.origin v)))
+      (eqb_tells v to)
 
   -- ---- Sums
 
@@ -222,7 +228,7 @@ module _ (g : ℕ) (globals : List Block) (functions : List FFunction) (f : ℕ)
         let to : b + m < start + frame_size es = reach_tells es start (b + m) (subst (λ l. reach_past l (b + m) ≡ true) is high) in
         subst (λ l. is_held g l ((b + y) / 2 ^ g) ≡ true) (sym is)
         (subst (λ a. is_held g (blocks_from start es) (a / 2 ^ g) ≡ true) (let z : start + (b - start + y) ≡ b + y = omega (arith, from) in z)
-          (frame_held g es start (b - start + y) (subst (ArePlaced g) is are) (omega (arith, from, to, le))))
+        (frame_held g es start (b - start + y) (subst (ArePlaced g) is are) (omega (arith, from, to, le))))
 
     -- a masked sum is good
     masked_good : (o m : Origin) (x y : ℕ) → is_masked s o m ≡ true → OriginHolds o x → OriginHolds m y → Good g ev ((x + y) % 2 ^ 32)
@@ -237,7 +243,7 @@ module _ (g : ℕ) (globals : List Block) (functions : List FFunction) (f : ℕ)
         let small : b + y < 2 ^ 31 = omega (arith, end, globals_are.fit, my) in
         let same : (x + y) % 2 ^ 32 ≡ b + y = omega (arith, ox, small) in
         subst (Good g ev) (sym same) (good_address g ev (b + y) small (global_held ((b + y) / 2 ^ g)
-          (in_region globals_are.exponents GLOBALS_START b m y globals_are.are (globals_placed g globals slot globals_are) r.0 r.1 my)))
+        (in_region globals_are.exponents GLOBALS_START b m y globals_are.are (globals_placed g globals slot globals_are) r.0 r.1 my)))
     masked_good Origin.Other m x y is ox my = absurd (true≢false (sym is))
     masked_good (Origin.AtMost n) m x y is ox my = absurd (true≢false (sym is))
     masked_good (Origin.InFrame o) Origin.Other x y is ox my = absurd (true≢false (sym is))
@@ -283,10 +289,10 @@ module _ (g : ℕ) (globals : List Block) (functions : List FFunction) (f : ℕ)
     element_says : (guard : Guard) (l r : ℕ) → nat_lt l V ≡ true → GuardHolds guard u.words → Says u ev (element guard l r) ((u.words l + u.words r) % 2 ^ 32)
     element_says Guard.Free l r in_ k = tt
     element_says (Guard.Under j n) l r in_ k = ⊎_elim
-      (λ e. subst (λ t. Says u ev (cond t (Source.From (Fact.Spanned l n)) Source.Gone) ((u.words l + u.words r) % 2 ^ 32)) (sym e.0)
+        (λ e. subst (λ t. Says u ev (cond t (Source.From (Fact.Spanned l n)) Source.Gone) ((u.words l + u.words r) % 2 ^ 32)) (sym e.0)
         (two (nat_lt l V) (nat_lt n V) in_ k.0, λ y. element_good g u.world.live ev (u.words l) (u.words n) (u.words r) at.holds.placed at.holds.within y (subst (λ z. u.words z < u.words n) (sym e.1) k.1)))
-      (λ e. subst (λ t. Says u ev (cond t (Source.From (Fact.Spanned l n)) Source.Gone) ((u.words l + u.words r) % 2 ^ 32)) (sym e.0) tt)
-      (eqb_tells r j)
+        (λ e. subst (λ t. Says u ev (cond t (Source.From (Fact.Spanned l n)) Source.Gone) ((u.words l + u.words r) % 2 ^ 32)) (sym e.0) tt)
+        (eqb_tells r j)
 
     pub sum_says : (o : ArithOp) (l r : ℕ) → nat_lt l V ≡ true → Says u ev (sum_of s h o l r) (arith_of o (u.words l) (u.words r))
     sum_says op.Add l r in_ = by (is_masked s (h.origin l) (h.origin r)) refl
@@ -308,13 +314,13 @@ module _ (g : ℕ) (globals : List Block) (functions : List FFunction) (f : ℕ)
     guard_kept : (guard : Guard) → GuardHolds guard ws → GuardHolds (guard_past guard to) ws'
     guard_kept Guard.Free y = tt
     guard_kept (Guard.Under i n) y = ⊎_elim
-      (λ e. subst (λ t. GuardHolds (kept_unless (t || (n == to)) (Guard.Under i n)) ws') (sym e.0) tt)
-      (λ e. ⊎_elim
+        (λ e. subst (λ t. GuardHolds (kept_unless (t || (n == to)) (Guard.Under i n)) ws') (sym e.0) tt)
+        (λ e. ⊎_elim
         (λ d. subst (λ t. GuardHolds (kept_unless (t || (n == to)) (Guard.Under i n)) ws') (sym e.0) (subst (λ t. GuardHolds (kept_unless t (Guard.Under i n)) ws') (sym d.0) tt))
         (λ d. subst (λ t. GuardHolds (kept_unless (t || (n == to)) (Guard.Under i n)) ws') (sym e.0) (subst (λ t. GuardHolds (kept_unless t (Guard.Under i n)) ws') (sym d.0)
-          (y.0, subst (λ z. z < ws' n) (sym (set_other ws to i x e.1)) (subst (λ z. ws i < z) (sym (set_other ws to n x d.1)) y.1))))
+        (y.0, subst (λ z. z < ws' n) (sym (set_other ws to i x e.1)) (subst (λ z. ws i < z) (sym (set_other ws to n x d.1)) y.1))))
         (eqb_tells n to))
-      (eqb_tells i to)
+        (eqb_tells i to)
 
     -- the test of an Ltu
     below_is : (a b : ℕ) → cond {A = ℕ} (nat_lt a b) 1 0 ≢ 0 → a < b

@@ -1,12 +1,12 @@
 -- Items that stand plainly are read back from their steps.
-use Rattle.std.proofs.Common.{◌≡◌, ℕ, zero, suc, ◌-◌, ◌^◌, Option, Some, None, Bool, true, false, List, [], ◌∷◌, cond, refl, sym, ap, ◌∙◌, true≢false}
+use Rattle.std.proofs.Common.{◌≡◌, ℕ, zero, suc, ◌-◌, ◌^◌, Option, Some, None, Bool, true, false, cond, refl, sym, ap, ◌∙◌, true≢false}
 use Rattle.std.specs.Prelude.{◌==◌, ◌&&◌, not}
-use Rattle.bb_words.specs.declared.kinds.ReportKind.TheVariants.{Bounds, Pointer}
+use Rattle.bb_words.specs.declared.kinds.ReportKind.TheVariants.{Bounds}
 use Rattle.bb_words.specs.declared.steps.ArithOp.TheVariants as op
 use Rattle.bb_words.specs.declared.steps.Width.TheVariants as width
-use Rattle.flat_code.specs.Code.{FStep, FSteps, ◌+++◌, steps}
-use Rattle.flat_code.specs.Sequences.{report, load_sequence, span_sequence, touch_steps, owned_steps}
-use Rattle.flat_code.specs.Recognized.{number_of_op, number_of_width, number_of_kind, same_step, same_steps, starts, Sequence, sequence_steps, is_apart, step_at, target, source, right_side, line_value, first_of, second_of, move_of, load_of, span_of, if_begins, sequence_at, further}
+use Rattle.flat_code.specs.Code.{FStep, FSteps, ◌+++◌}
+use Rattle.flat_code.specs.Sequences.{report, load_sequence, span_sequence, owned_steps}
+use Rattle.flat_code.specs.Recognized.{number_of_op, number_of_width, number_of_kind, same_steps, starts, Sequence, sequence_steps, is_apart, step_at, target, source, line_value, first_of, second_of, load_of, span_of, if_begins, sequence_at, further}
 use Rattle.flat_verify.specs.Items.{Item, Items, item_steps, all_steps, item_or, item_of, items_from}
 use Rattle.flat_verify.specs.Breaks.{is_plain}
 use Rattle.flat_verify.specs.Laws.{IsPlainly, ArePlainly, PlainItemsAreRead}

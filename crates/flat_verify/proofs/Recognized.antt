@@ -1,6 +1,6 @@
 -- The items of steps are these steps, and a sequence is found where it stands.
-use Rattle.std.proofs.Common.{◌≡◌, ◌≢◌, ℕ, zero, suc, ◌+◌, ◌-◌, Option, Some, None, Bool, true, false, List, [], ◌∷◌, cond, refl, sym, ap, ◌∙◌, ⊎_elim, true≢false, arith}
-use Rattle.std.specs.Prelude.{◌==◌, ◌&&◌, not}
+use Rattle.std.proofs.Common.{◌≡◌, ℕ, zero, suc, ◌-◌, Option, Some, None, Bool, true, false, List, [], ◌∷◌, cond, refl, sym, ap, ◌∙◌, ⊎_elim, true≢false, arith}
+use Rattle.std.specs.Prelude.{◌==◌, ◌&&◌}
 use Rattle.std.proofs.lemmas.Bool.{eqb-true}
 use Rattle.std.proofs.lemmas.Bool.Decides.{eqb_tells}
 use Rattle.bb_words.specs.declared.kinds.ReportKind.{ReportKind}
@@ -11,7 +11,7 @@ use Rattle.bb_words.specs.declared.steps.Width.{Width}
 use Rattle.bb_words.specs.declared.steps.Width.TheVariants as width
 use Rattle.flat_code.specs.Code.{FStep, FSteps, ◌+++◌}
 use Rattle.flat_code.specs.Recognized.{number_of_op, number_of_width, number_of_kind, same_numbers, same_step, same_steps, starts, Sequence, sequence_steps, is_apart, move_of, load_of, span_of, if_begins, sequence_at, count, further}
-use Rattle.flat_verify.specs.Items.{Item, Items, item_steps, all_steps, item_or, item_of, items_from, items_of}
+use Rattle.flat_verify.specs.Items.{Item, Items, item_steps, all_steps, item_or, item_of, items_from}
 use Rattle.flat_verify.specs.Laws.{ItemsAreSteps, SequencesAreFound}
 
 both : (a b : Bool) → (a && b) ≡ true → (a ≡ true) × (b ≡ true)

@@ -1,19 +1,18 @@
 -- Whole bodies of disciplined code.
-use Rattle.std.proofs.Common.{◌≡◌, ◌≢◌, ◌⊎◌, ℕ, zero, suc, ◌+◌, ◌-◌, ◌*◌, ◌/◌, ◌%◌, ◌^◌, ◌<◌, ◌≤◌, List, [], ◌∷◌, length, Option, Some, None, Bool, true, false, cond, inl, inr, refl, sym, ap, ◌∙◌, subst, ⊎_elim, arith, true≢false, nat_lt, nat_le}
-use Rattle.std.specs.Prelude.{◌==◌, ◌&&◌, ◌||◌, not, slice_get, if◌then◌else◌}
-use Rattle.bb_words.specs.Answers.{Answer, and_then}
+use Rattle.std.proofs.Common.{◌≡◌, ◌≢◌, ℕ, zero, suc, ◌+◌, ◌<◌, List, ◌∷◌, length, Option, Some, None, Bool, true, false, inl, inr, refl, sym, ap, ◌∙◌, subst, arith, true≢false, nat_lt}
+use Rattle.std.specs.Prelude.{◌&&◌}
 use Rattle.size_table.specs.Blocks.{Block}
-use Rattle.flat_code.specs.Code.{FStep, FSteps, ◌+++◌, FFunction}
-use Rattle.flat_code.specs.World.{FWorld, FPoint, point, spend, choose, Ending, Run, Way, onward, out_of}
+use Rattle.flat_code.specs.Code.{FStep, FSteps, FFunction}
+use Rattle.flat_code.specs.World.{FWorld, FPoint, point, spend, Run, Way}
 use Rattle.flat_code.specs.Time.{charge}
-use Rattle.flat_code.specs.Run.{inner_turns, turns, Calls, act, act_all}
+use Rattle.flat_code.specs.Run.{inner_turns, Calls, act, act_all}
 use Rattle.flat_code.specs.Recognized.{Sequence, sequence_steps, sequence_at, is_apart, further}
-use Rattle.flat_verify.specs.Items.{Item, Items, item_steps, all_steps, item_or, item_of, items_from, items_of, step_places, steps_places, places, all_places, first_place}
+use Rattle.flat_verify.specs.Items.{Item, Items, item_steps, all_steps, item_or, item_of, items_from, step_places, steps_places, places, all_places, first_place}
 use Rattle.flat_verify.specs.Facts.{Fact, Source, Here, untold, branch, here_after, tell, source}
 use Rattle.flat_verify.specs.Chains.{leading, leads, Edges, Edge, EdgeAll}
 use Rattle.flat_verify.specs.Breaks.{fits, is_plain, address, pointer, operands, AddressLost, Inside, Breaks, BreaksAll}
 use Rattle.flat_verify.specs.Discipline.{setting, edges, LostAt}
-use Rattle.flat_verify.specs.Comes.{IfOn, InTurns, InStep, InSteps}
+use Rattle.flat_verify.specs.Comes.{IfOn, InStep, InSteps}
 use Rattle.std.specs.Prelude.{is_some}
 use Rattle.bb_watch.specs.Live.{holder_if}
 use Rattle.flat_verify.specs.Comes.{Claim}
@@ -74,9 +73,10 @@ module _ (g : ℕ) where
     steps_apart zero FSteps.none = tt
     steps_apart (suc k) FSteps.none = tt
     steps_apart (suc k) (FSteps.more s rest) = steps_apart k rest
-    steps_apart zero (FSteps.more s rest) =
-        (item_apart (sequence_at g (FSteps.more s rest)) (FSteps.more s rest) (item_of g s) (sequence_is_at g (FSteps.more s rest)) (step_apart s),
-         steps_apart (further g (sequence_at g (FSteps.more s rest))) rest)
+    steps_apart zero (FSteps.more s rest) = (
+      item_apart (sequence_at g (FSteps.more s rest)) (FSteps.more s rest) (item_of g s) (sequence_is_at g (FSteps.more s rest)) (step_apart s),
+      steps_apart (further g (sequence_at g (FSteps.more s rest))) rest,
+    )
 
   -- the places of items are those of their steps
   mutual
@@ -167,28 +167,31 @@ module _ (g : ℕ) (globals : List Block) (functions : List FFunction) (laws : L
   pointer_in (Sequence.Load w a line s e) levels at fine =
       (both (nat_lt w S.values) (nat_lt a S.values) (true_of (nat_lt w S.values && nat_lt a S.values) (λ h. fine at (inl (refl, inl h))))).1
   pointer_in (Sequence.Span p n q line d s e) levels at fine =
-      (both (nat_lt d S.values) (nat_lt p S.values) (true_of (nat_lt d S.values && nat_lt p S.values) (λ h. fine (at + 1 + 1 + 2 + 1) (inr (inr (inr (inl (inr (inl (inl (refl, inl h)))))))))) ).1
+      (both (nat_lt d S.values) (nat_lt p S.values) (true_of (nat_lt d S.values && nat_lt p S.values) (λ h. fine (at + 1 + 1 + 2 + 1) (inr (inr (inr (inl (inr (inl (inl (refl, inl h))))))))))).1
 
   mutual
     item_fares : (i : Item) (h : Here) (p after : ℕ) (exits : List ℕ) (u : FPoint) → ((h' : Here) (t : Item) (a : ℕ) (b : Option ℕ) → Edge g h i p after exits h' t a b → E h' t a b) → IsApart i → Only g W i p
-      → ((q : ℕ) → Breaks g S L (length exits) i p q → ⊥) → Ok p u → Hr h u → In (item_steps g i) p u × Ld after exits (Hr (here_after i h)) (go (item_steps g i) u)
+        → ((q : ℕ) → Breaks g S L (length exits) i p q → ⊥) → Ok p u → Hr h u → In (item_steps g i) p u × Ld after exits (Hr (here_after i h)) (go (item_steps g i) u)
     item_fares (Item.Plain x) h p after exits u on apart only fine at k =
         let t : FPoint = point u.words (spend (charge x) u.world) in
         let r = plain_fares g globals functions laws known f base w0 start call m bytes inside calls same_bytes h x p after exits t
-              (on h (Item.Plain x) p (leads (leading x) after exits) (refl, refl, refl, refl))
-              (true_of (fits S (length exits) x && is_plain x) (λ e. fine p (refl, inl e)))
-              (λ l. fine p (refl, inr (inl l)))
-              (spent g globals functions f base w0 p (charge x) u at) k in
-        (((range_at g S.frame functions x (charge x) u r.0, owned p u at), in_plain x p t (length exits) (true_of (fits S (length exits) x && is_plain x) (λ e. fine p (refl, inl e))) r.1, if_on_any (act g call m bytes x t) (In FSteps.none (p + step_places x)) (λ z. tt)),
-         subst (Ld after exits (Hr (tell h x))) (sym (one_step g call m bytes x u)) r.2)
+        (on h (Item.Plain x) p (leads (leading x) after exits) (refl, refl, refl, refl))
+        (true_of (fits S (length exits) x && is_plain x) (λ e. fine p (refl, inl e)))
+        (λ l. fine p (refl, inr (inl l)))
+        (spent g globals functions f base w0 p (charge x) u at) k in (
+          ((range_at g S.frame functions x (charge x) u r.0, owned p u at), in_plain x p t (length exits) (true_of (fits S (length exits) x && is_plain x) (λ e. fine p (refl, inl e))) r.1, if_on_any (act g call m bytes x t) (In FSteps.none (p + step_places x)) (λ z. tt)),
+          subst (Ld after exits (Hr (tell h x))) (sym (one_step g call m bytes x u)) r.2,
+        )
     item_fares (Item.Checks q) h p after exits u on apart only fine at k =
         let r = check_fares g globals functions laws known f base w0 start call m bytes inside calls same_bytes q h p after exits u
-              (on h (Item.Checks q) p (Some after) (refl, refl, refl, refl)) apart
-              (pointer_in q (length exits) p (λ j b. fine j (inr b))) (λ l. fine (p + Rattle.flat_verify.specs.Breaks.pointer_use q) (inl (refl, l))) at in
-        (strengthen g call m bytes inside (ranged g call m bytes functions S.frame inside) safe_step (sequence_steps g q) p u
-           (λ s c. (c, owned p u at))
-           (λ j x t low high c. (c, λ w. absurd (let z : j ≡ p = only j (omega (arith, low)) high w in let n : ⊥ = omega (arith, z, low) in n)))
-           r.0, r.1)
+        (on h (Item.Checks q) p (Some after) (refl, refl, refl, refl)) apart
+        (pointer_in q (length exits) p (λ j b. fine j (inr b))) (λ l. fine (p + Rattle.flat_verify.specs.Breaks.pointer_use q) (inl (refl, l))) at in (
+          strengthen g call m bytes inside (ranged g call m bytes functions S.frame inside) safe_step (sequence_steps g q) p u
+              (λ s c. (c, owned p u at))
+              (λ j x t low high c. (c, λ w. absurd (let z : j ≡ p = only j (omega (arith, low)) high w in let n : ⊥ = omega (arith, z, low) in n)))
+              r.0,
+          r.1,
+        )
     item_fares (Item.If c x y) h p after exits u on apart only fine at k =
         let t : FPoint = point u.words (spend 6 u.world) in
         let at_t = spent g globals functions f base w0 p 6 u at in
@@ -196,51 +199,59 @@ module _ (g : ℕ) (globals : List Block) (functions : List FFunction) (laws : L
         let second = flow g globals functions f base w0 h (Item.If c x y) p (first_place y (p + 1 + all_places g x) after) t (on h (Item.If c x y) p (Some (first_place y (p + 1 + all_places g x) after)) (inl (inr (refl, refl, refl, refl)))) (λ z. refl) at_t in
         let go_x = λ (some : u.words c ≢ 0). items_fare x (branch h c) (p + 1) after exits t (λ h' i a b e. on h' i a b (inr (inl e))) apart.0 (only_first g W c x y p only) (λ q b. fine q (inr (inl b))) first (branch_holds g globals functions f base w0 h c u.words k some) in
         let go_y = items_fare y untold (p + 1 + all_places g x) after exits t (λ h' i a b e. on h' i a b (inr (inr e))) apart.1 (only_second g W c x y p only) (λ q b. fine q (inr (inr b))) second (untold_holds g globals functions f base w0 u.words) in
-        let place : p + 1 + all_places g x ≡ p + 1 + steps_places (all_steps g x) = ap (λ n. p + 1 + n) (sym (all_places_are g x apart.0)) in
-        (((tt, owned p u at), claims_by_zero (u.words c) (In (all_steps g y) (p + 1 + steps_places (all_steps g x))) (In (all_steps g x) (p + 1)) t (λ z. subst (λ n. In (all_steps g y) n t) place go_y.0) (λ some. (go_x some).0),
-          if_on_any (act g call m bytes (FStep.If c (all_steps g x) (all_steps g y)) t) (In FSteps.none (p + step_places (FStep.If c (all_steps g x) (all_steps g y)))) (λ z. tt)),
-         subst (Ld after exits (Hr untold)) (sym (one_step g call m bytes (FStep.If c (all_steps g x) (all_steps g y)) u))
-           (by_zero (u.words c) (λ (r : Run Way). Ld after exits (Hr untold) r) (go (all_steps g y)) (go (all_steps g x)) t
-             (λ z. lands_as g globals functions f base w0 after exits (Any g globals functions f base w0) (Hr untold) (λ v j. untold_holds g globals functions f base w0 v.words) (go (all_steps g y) t) go_y.1)
-             (λ some. lands_as g globals functions f base w0 after exits (Any g globals functions f base w0) (Hr untold) (λ v j. untold_holds g globals functions f base w0 v.words) (go (all_steps g x) t) (go_x some).1)))
+        let place : p + 1 + all_places g x ≡ p + 1 + steps_places (all_steps g x) = ap (λ n. p + 1 + n) (sym (all_places_are g x apart.0)) in (
+          (
+            (tt, owned p u at),
+            claims_by_zero (u.words c) (In (all_steps g y) (p + 1 + steps_places (all_steps g x))) (In (all_steps g x) (p + 1)) t (λ z. subst (λ n. In (all_steps g y) n t) place go_y.0) (λ some. (go_x some).0),
+            if_on_any (act g call m bytes (FStep.If c (all_steps g x) (all_steps g y)) t) (In FSteps.none (p + step_places (FStep.If c (all_steps g x) (all_steps g y)))) (λ z. tt),
+          ),
+          subst (Ld after exits (Hr untold)) (sym (one_step g call m bytes (FStep.If c (all_steps g x) (all_steps g y)) u))
+              (by_zero (u.words c) (λ (r : Run Way). Ld after exits (Hr untold) r) (go (all_steps g y)) (go (all_steps g x)) t
+              (λ z. lands_as g globals functions f base w0 after exits (Any g globals functions f base w0) (Hr untold) (λ v j. untold_holds g globals functions f base w0 v.words) (go (all_steps g y) t) go_y.1)
+              (λ some. lands_as g globals functions f base w0 after exits (Any g globals functions f base w0) (Hr untold) (λ v j. untold_holds g globals functions f base w0 v.words) (go (all_steps g x) t) (go_x some).1)),
+        )
     item_fares (Item.Block x) h p after exits u on apart only fine at k =
         let t : FPoint = point u.words (spend 0 u.world) in
         let at_t = spent g globals functions f base w0 p 0 u at in
         let first = flow g globals functions f base w0 h (Item.Block x) p (first_place x (p + 1) after) t (on h (Item.Block x) p (Some (first_place x (p + 1) after)) (inl (refl, refl, refl, refl))) (λ z. refl) at_t in
-        let r = items_fare x untold (p + 1) after (after ∷ exits) t (λ h' i a b e. on h' i a b (inr e)) apart (only_block g W x p only) fine first (untold_holds g globals functions f base w0 u.words) in
-        (((tt, owned p u at), r.0, if_on_any (act g call m bytes (FStep.Block (all_steps g x)) t) (In FSteps.none (p + step_places (FStep.Block (all_steps g x)))) (λ z. tt)),
-         subst (Ld after exits (Hr untold)) (sym (one_step g call m bytes (FStep.Block (all_steps g x)) u))
-           (lands_as g globals functions f base w0 after exits (Any g globals functions f base w0) (Hr untold) (λ v j. untold_holds g globals functions f base w0 v.words) (act g call m bytes (FStep.Block (all_steps g x)) t)
-             (out_lands g globals functions f base w0 after exits (go (all_steps g x) t) r.1)))
+        let r = items_fare x untold (p + 1) after (after ∷ exits) t (λ h' i a b e. on h' i a b (inr e)) apart (only_block g W x p only) fine first (untold_holds g globals functions f base w0 u.words) in (
+          ((tt, owned p u at), r.0, if_on_any (act g call m bytes (FStep.Block (all_steps g x)) t) (In FSteps.none (p + step_places (FStep.Block (all_steps g x)))) (λ z. tt)),
+          subst (Ld after exits (Hr untold)) (sym (one_step g call m bytes (FStep.Block (all_steps g x)) u))
+              (lands_as g globals functions f base w0 after exits (Any g globals functions f base w0) (Hr untold) (λ v j. untold_holds g globals functions f base w0 v.words) (act g call m bytes (FStep.Block (all_steps g x)) t)
+              (out_lands g globals functions f base w0 after exits (go (all_steps g x) t) r.1)),
+        )
     item_fares (Item.Loop x) h p after exits u on apart only fine at k =
         let t : FPoint = point u.words (spend 0 u.world) in
         let at_t = spent g globals functions f base w0 p 0 u at in
         let r = turns_land g globals functions f base w0 p (first_place x (p + 1) p) after exits (go (all_steps g x)) (In (all_steps g x) (p + 1))
-              (λ v ok. flow g globals functions f base w0 h (Item.Loop x) p (first_place x (p + 1) p) v (on h (Item.Loop x) p (Some (first_place x (p + 1) p)) (inl (refl, refl, refl, refl))) (λ z. refl) ok)
-              (λ v ok. items_fare x untold (p + 1) p (after ∷ exits) v (λ h' i a b e. on h' i a b (inr e)) apart (only_loop g W x p only) fine ok (untold_holds g globals functions f base w0 v.words))
-              m t at_t in
-        (((tt, owned p u at), r.0, if_on_any (act g call m bytes (FStep.Loop (all_steps g x)) t) (In FSteps.none (p + step_places (FStep.Loop (all_steps g x)))) (λ z. tt)),
-         subst (Ld after exits (Hr untold)) (sym (one_step g call m bytes (FStep.Loop (all_steps g x)) u))
-           (lands_as g globals functions f base w0 after exits (Any g globals functions f base w0) (Hr untold) (λ v j. untold_holds g globals functions f base w0 v.words) (act g call m bytes (FStep.Loop (all_steps g x)) t) r.1))
+        (λ v ok. flow g globals functions f base w0 h (Item.Loop x) p (first_place x (p + 1) p) v (on h (Item.Loop x) p (Some (first_place x (p + 1) p)) (inl (refl, refl, refl, refl))) (λ z. refl) ok)
+        (λ v ok. items_fare x untold (p + 1) p (after ∷ exits) v (λ h' i a b e. on h' i a b (inr e)) apart (only_loop g W x p only) fine ok (untold_holds g globals functions f base w0 v.words))
+        m t at_t in (
+          ((tt, owned p u at), r.0, if_on_any (act g call m bytes (FStep.Loop (all_steps g x)) t) (In FSteps.none (p + step_places (FStep.Loop (all_steps g x)))) (λ z. tt)),
+          subst (Ld after exits (Hr untold)) (sym (one_step g call m bytes (FStep.Loop (all_steps g x)) u))
+              (lands_as g globals functions f base w0 after exits (Any g globals functions f base w0) (Hr untold) (λ v j. untold_holds g globals functions f base w0 v.words) (act g call m bytes (FStep.Loop (all_steps g x)) t) r.1),
+        )
     item_fares (Item.Inner x) h p after exits u on apart only fine at k =
         let t : FPoint = point u.words (spend 0 u.world) in
         let at_t = spent g globals functions f base w0 p 0 u at in
         let r = turns_land g globals functions f base w0 p (first_place x (p + 1) p) after exits (go (all_steps g x)) (In (all_steps g x) (p + 1))
-              (λ v ok. flow g globals functions f base w0 h (Item.Inner x) p (first_place x (p + 1) p) v (on h (Item.Inner x) p (Some (first_place x (p + 1) p)) (inl (refl, refl, refl, refl))) (λ z. refl) ok)
-              (λ v ok. items_fare x untold (p + 1) p (after ∷ exits) v (λ h' i a b e. on h' i a b (inr e)) apart (only_inner g W x p only) fine ok (untold_holds g globals functions f base w0 v.words))
-              (inner_turns m) t at_t in
-        (((tt, owned p u at), r.0, if_on_any (act g call m bytes (FStep.Inner (all_steps g x)) t) (In FSteps.none (p + step_places (FStep.Inner (all_steps g x)))) (λ z. tt)),
-         subst (Ld after exits (Hr untold)) (sym (one_step g call m bytes (FStep.Inner (all_steps g x)) u))
-           (lands_as g globals functions f base w0 after exits (Any g globals functions f base w0) (Hr untold) (λ v j. untold_holds g globals functions f base w0 v.words) (act g call m bytes (FStep.Inner (all_steps g x)) t) r.1))
+        (λ v ok. flow g globals functions f base w0 h (Item.Inner x) p (first_place x (p + 1) p) v (on h (Item.Inner x) p (Some (first_place x (p + 1) p)) (inl (refl, refl, refl, refl))) (λ z. refl) ok)
+        (λ v ok. items_fare x untold (p + 1) p (after ∷ exits) v (λ h' i a b e. on h' i a b (inr e)) apart (only_inner g W x p only) fine ok (untold_holds g globals functions f base w0 v.words))
+        (inner_turns m) t at_t in (
+          ((tt, owned p u at), r.0, if_on_any (act g call m bytes (FStep.Inner (all_steps g x)) t) (In FSteps.none (p + step_places (FStep.Inner (all_steps g x)))) (λ z. tt)),
+          subst (Ld after exits (Hr untold)) (sym (one_step g call m bytes (FStep.Inner (all_steps g x)) u))
+              (lands_as g globals functions f base w0 after exits (Any g globals functions f base w0) (Hr untold) (λ v j. untold_holds g globals functions f base w0 v.words) (act g call m bytes (FStep.Inner (all_steps g x)) t) r.1),
+        )
 
     pub items_fare : (is : Items) (h : Here) (p after : ℕ) (exits : List ℕ) (u : FPoint) → ((h' : Here) (t : Item) (a : ℕ) (b : Option ℕ) → EdgeAll g h is p after exits h' t a b → E h' t a b) → AreApart is → OnlyAll g W is p
-      → ((q : ℕ) → BreaksAll g S L (length exits) is p q → ⊥) → Ok (first_place is p after) u → Hr h u → In (all_steps g is) p u × Ld after exits (Any g globals functions f base w0) (go (all_steps g is) u)
+        → ((q : ℕ) → BreaksAll g S L (length exits) is p q → ⊥) → Ok (first_place is p after) u → Hr h u → In (all_steps g is) p u × Ld after exits (Any g globals functions f base w0) (go (all_steps g is) u)
     items_fare Items.end h p after exits u on apart only fine at k = (tt, (at, tt))
     items_fare (Items.next i rest) h p after exits u on apart only fine at k =
         let mid = first_place rest (p + places g i) after in
         let r = item_fares i h p mid exits u (λ h' t a b e. on h' t a b (inl e)) apart.0 (only_head g W i rest p only) (λ q b. fine q (inl b)) at k in
         let s = then_lands g globals functions f base w0 after mid exits (Hr (here_after i h)) (Any g globals functions f base w0) (In (all_steps g rest) (p + places g i)) (go (all_steps g rest)) (go (item_steps g i) u) r.1
-              (λ v ok here. items_fare rest (here_after i h) (p + places g i) after exits v (λ h' t a b e. on h' t a b (inr e)) apart.1 (only_tail g W i rest p only) (λ q b. fine q (inr b)) ok here) in
-        (in_append g call m bytes inside safe_step (item_steps g i) (all_steps g rest) p u r.0
-           (subst (λ n. IfOn (go (item_steps g i) u) (In (all_steps g rest) (p + n))) (sym (item_places g i apart.0)) s.0),
-         subst (Ld after exits (Any g globals functions f base w0)) (sym (all_append g call m bytes (item_steps g i) (all_steps g rest) u)) s.1)
+        (λ v ok here. items_fare rest (here_after i h) (p + places g i) after exits v (λ h' t a b e. on h' t a b (inr e)) apart.1 (only_tail g W i rest p only) (λ q b. fine q (inr b)) ok here) in (
+          in_append g call m bytes inside safe_step (item_steps g i) (all_steps g rest) p u r.0
+              (subst (λ n. IfOn (go (item_steps g i) u) (In (all_steps g rest) (p + n))) (sym (item_places g i apart.0)) s.0),
+          subst (Ld after exits (Any g globals functions f base w0)) (sym (all_append g call m bytes (item_steps g i) (all_steps g rest) u)) s.1,
+        )

@@ -1,33 +1,33 @@
 -- Calls and runs of disciplined code are safe.
-use Rattle.std.proofs.Common.{◌≡◌, ◌≢◌, ◌⊎◌, ℕ, zero, suc, ◌+◌, ◌-◌, ◌*◌, ◌/◌, ◌%◌, ◌^◌, ◌<◌, ◌≤◌, List, [], ◌∷◌, length, reverse, Option, Some, None, Bool, true, false, cond, inl, inr, refl, sym, ap, ◌∙◌, subst, ⊎_elim, arith, true≢false, pow_pos, nat_lt, nat_le}
-use Rattle.std.specs.Prelude.{◌==◌, ◌&&◌, ◌||◌, not, slice_get, slice_index_or, if◌then◌else◌}
+use Rattle.std.proofs.Common.{◌≡◌, ◌≢◌, ◌⊎◌, ℕ, zero, suc, ◌+◌, ◌-◌, ◌*◌, ◌/◌, ◌%◌, ◌^◌, ◌<◌, ◌≤◌, List, [], ◌∷◌, reverse, Option, Some, None, Bool, true, false, inl, inr, refl, sym, ap, ◌∙◌, subst, ⊎_elim, arith, true≢false, pow_pos, nat_lt, nat_le}
+use Rattle.std.specs.Prelude.{◌==◌, ◌&&◌, ◌||◌, not, slice_get}
 use Rattle.std.proofs.lemmas.Bool.Decides.{eqb_tells}
 use Rattle.std.proofs.lemmas.Nat.{div-add-mod', mod-mul-add}
 use Rattle.bb_words.specs.Answers.{Answer, and_then, either}
 use Rattle.bb_words.specs.declared.kinds.ReportKind.TheVariants as report
-use Rattle.size_table.specs.declared.memory_map.TheConstants.{GLOBALS_START, STACK_START, HEAP_START, MEMORY_END, MOST_CALLS}
+use Rattle.size_table.specs.declared.memory_map.TheConstants.{STACK_START, HEAP_START, MOST_CALLS}
 use Rattle.size_table.specs.Blocks.{Block, holds}
 use Rattle.size_table.specs.Made.{blocks_from}
-use Rattle.flat_code.specs.Code.{FStep, FSteps, FFunction, FCode}
+use Rattle.flat_code.specs.Code.{FSteps, FFunction, FCode}
 use Rattle.flat_code.specs.Told.{Tell, tells}
-use Rattle.flat_code.specs.World.{Words, arguments, FWorld, FPoint, point, spend, choose, Ending, Run, Way}
-use Rattle.flat_code.specs.Accounts.{make_all, end_all, frame_size, alignment, stack_under, enter, leave}
+use Rattle.flat_code.specs.World.{arguments, FWorld, FPoint, point, spend, choose, Ending, Run, Way}
+use Rattle.flat_code.specs.Accounts.{end_all, frame_size, alignment, stack_under, enter, leave}
 use Rattle.flat_code.specs.Safety.{ever_after, ever_of}
 use Rattle.flat_code.specs.Time.{call_charge}
 use Rattle.flat_code.specs.Run.{Calls, act_all, returned, body_with, framed, framed_if, counted, no_calls, library, defined, call_none, call_one, calls, start, exited, flat_run}
 use Rattle.flat_code.specs.Laws.{point_of}
-use Rattle.flat_verify.specs.Items.{Item, Items, all_steps, items_of, places, all_places, first_place}
+use Rattle.flat_verify.specs.Items.{Item, Items, all_steps, items_of, all_places, first_place}
 use Rattle.flat_verify.specs.Facts.{Fact, Here, untold}
-use Rattle.flat_verify.specs.Chains.{EdgeAll, body_edges, Lost}
+use Rattle.flat_verify.specs.Chains.{EdgeAll, Lost}
 use Rattle.flat_verify.specs.Breaks.{BreaksAll}
 use Rattle.flat_verify.specs.Discipline.{values_in, frame_in, setting, edges_in, edges, LostAt, ResultLost, most_values, most_params, library_fits, main_fits, function_fits, BreaksBy, BreaksAt, IsDisciplined}
 use Rattle.flat_verify.specs.Comes.{InSteps, nothing, InLibrary, InFrame, InDefined, InOne, InNone, InCalls, InRun}
-use Rattle.flat_verify.specs.Safe.{Decline, AreGlobals, IsFrame, AreFrames, BeginsIn, is_safe_step, IsSafeRun, DisciplinedIsSafe}
+use Rattle.flat_verify.specs.Safe.{Decline, AreGlobals, AreFrames, BeginsIn, is_safe_step, IsSafeRun, DisciplinedIsSafe}
 use Rattle.flat_verify.proofs.Blocks.{both, le_of, lt_of, ge_of, is_lt, ArePlaced, is_held, Within, held_left, Good}
 use Rattle.flat_verify.proofs.Worlds.{Laws, decline_placed, frame_held, globals_placed, ever, Holds, same_holds, Next, same_next, then_next, made_all_next, made_all_held, made_all_stack, ended_all_next}
-use Rattle.flat_verify.proofs.Points.{Base, OkAt, untold_holds}
+use Rattle.flat_verify.proofs.Points.{OkAt, untold_holds}
 use Rattle.flat_verify.proofs.Lands.{Lands, Any}
-use Rattle.flat_verify.proofs.Plain.{CallWent, CallLands, CallsSafe, Known}
+use Rattle.flat_verify.proofs.Plain.{CallLands, CallsSafe, Known}
 use Rattle.flat_verify.proofs.Recognized.{items_are_steps}
 use Rattle.flat_verify.proofs.Runs.{steps_apart, items_fare}
 
@@ -115,8 +115,7 @@ module _ (g : ℕ) (globals : List Block) (code : FCode) (laws : Laws) (frames :
 
     -- a body that is begun in a world
     module _ (w : FWorld) (h : Holds g globals w) (room : w.stack + fn.frame ≤ HEAP_START) (frame : (o : ℕ) → o < fn.frame → is_held g (evr w) ((w.stack + o) / 2 ^ g) ≡ true)
-      (good : (k a : ℕ) → slice_get args k ≡ Some a → (LostAt g globals fs number 0 (Fact.Clean k) → ⊥) → Good g (evr w) a) where
-
+        (good : (k a : ℕ) → slice_get args k ≡ Some a → (LostAt g globals fs number 0 (Fact.Clean k) → ⊥) → Good g (evr w) a) where
       abbrev begun : FPoint
       begun = point (arguments args) w
 
@@ -125,14 +124,16 @@ module _ (g : ℕ) (globals : List Block) (code : FCode) (laws : Laws) (frames :
 
       at_begin : OkAt g globals fs number w.stack w 0 begun
       at_begin = record {
-          good = λ v in_ nt. ⊎_elim (λ a. subst (Good g (evr w)) (sym a.2) (good v a.0 a.1 nt)) (λ z. inl z) (argument_is args v);
-          spans = λ x n in_ nt. absurd (nt (Lost.unspanned number x n in_));
-          kept = record {
-            holds = h; stack = refl; grows = λ s x. x;
-            frame = λ o lt. frame o (subst (λ n. o < n) (ap frame_in is) lt);
-            room = subst (λ n. w.stack + n ≤ HEAP_START) (sym (ap frame_in is)) room;
-          };
-        }
+        good = λ v in_ nt. ⊎_elim (λ a. subst (Good g (evr w)) (sym a.2) (good v a.0 a.1 nt)) (λ z. inl z) (argument_is args v);
+        spans = λ x n in_ nt. absurd (nt (Lost.unspanned number x n in_));
+        kept = record {
+          holds = h;
+          stack = refl;
+          grows = λ s x. x;
+          frame = λ o lt. frame o (subst (λ n. o < n) (ap frame_in is) lt);
+          room = subst (λ n. w.stack + n ≤ HEAP_START) (sym (ap frame_in is)) room;
+        };
+      }
 
       first_is : (xs : Items) → first_place xs 0 (all_places g xs) ≡ 0
       first_is Items.end = refl
@@ -181,12 +182,12 @@ module _ (g : ℕ) (globals : List Block) (code : FCode) (laws : Laws) (frames :
 
   -- a body of the library
   library_safe : (number : ℕ) (fn : FFunction) (args : List ℕ) (u : FPoint) → slice_get fs number ≡ Some fn → fn.line ≡ 0 → Holds g globals u.world → Goods number args u.world
-    → InLibrary g frames m (is_safe_step g globals fs) number fn args u × CallLands g globals fs laws number u (library g frames m fn args u)
+      → InLibrary g frames m (is_safe_step g globals fs) number fn args u × CallLands g globals fs laws number u (library g frames m fn args u)
   library_safe number fn args u is line h good =
       let w = spend (call_charge fn) u.world in
       let empty : fn.frame ≡ 0 = (fits_of number fn is).library_frame line in
       let r = body_safe number fn is args u no_calls (λ function args u. Unit {0}) none_safe 0 (sym empty) w (same_holds g globals u.world w refl refl h.stack h)
-            (let z = h.stack in omega (arith, z, empty)) (λ o lt. absurd (let z : ⊥ = omega (arith, lt, empty) in z)) good in
+      (let z = h.stack in omega (arith, z, empty)) (λ o lt. absurd (let z : ⊥ = omega (arith, lt, empty) in z)) good in
       (r.0, landed (body_with (act_all g no_calls m 0 fn.body) args (point u.words w)) r.1)
     where
       landed : (r : Run ℕ) → BodyLands number (point u.words (spend (call_charge fn) u.world)) (spend (call_charge fn) u.world) r → CallLands g globals fs laws number u r
@@ -243,9 +244,9 @@ module _ (g : ℕ) (globals : List Block) (code : FCode) (laws : Laws) (frames :
       framed_safe = by (nat_lt (stack_under g u.world.stack es) STACK_START) refl
         where
           by : (t : Bool) → nat_lt (stack_under g u.world.stack es) STACK_START ≡ t
-            → either t nothing (λ t. InSteps g deeper m fn.frame inside (is_safe_step g globals fs number) fn.body 0 (point (arguments args) (enter (stack_under g t.world.stack es) es t.world))) v
-            × CallLands g globals fs laws number u (choose t (λ z. Answer.Ends (Ending.Reported report.Stack fn.line) z)
-                (λ t. and_then (body_with (act_all g deeper m fn.frame fn.body) args (point t.words (enter (stack_under g t.world.stack es) es t.world))) (λ word s. Answer.Goes word (point s.words (leave es t.world s.world)))) v)
+              → either t nothing (λ t. InSteps g deeper m fn.frame inside (is_safe_step g globals fs number) fn.body 0 (point (arguments args) (enter (stack_under g t.world.stack es) es t.world))) v
+              × CallLands g globals fs laws number u (choose t (λ z. Answer.Ends (Ending.Reported report.Stack fn.line) z)
+              (λ t. and_then (body_with (act_all g deeper m fn.frame fn.body) args (point t.words (enter (stack_under g t.world.stack es) es t.world))) (λ word s. Answer.Goes word (point s.words (leave es t.world s.world)))) v)
           by true e = (tt, same_holds g globals u.world v.world refl refl h.stack h)
           by false e =
               let low_ : STACK_START ≤ stack_under g u.world.stack es = ge_of (stack_under g u.world.stack es) STACK_START e in
@@ -257,17 +258,17 @@ module _ (g : ℕ) (globals : List Block) (code : FCode) (laws : Laws) (frames :
               let stack : entered.stack ≡ stack_under g u.world.stack es = made_all_stack g globals laws (blocks_from (stack_under g u.world.stack es) es) lowered in
               let held = made_all_held g globals laws (blocks_from (stack_under g u.world.stack es) es) lowered hl.holds p.0 in
               let r = body_safe number fn is args (point v.words entered) deeper inside safe fn.frame refl entered next.holds
-                    (let z = h.stack in let y = p.1 in omega (arith, z, y, stack, total))
-                    (λ o lt. subst (λ b. is_held g (evr entered) ((b + o) / 2 ^ g) ≡ true) (sym stack) (held ((stack_under g u.world.stack es + o) / 2 ^ g) (frame_held g es (stack_under g u.world.stack es) o p.0 (subst (λ n. o < n) (sym total) lt))))
-                    (λ k a x nt. Rattle.flat_verify.proofs.Blocks.good_more g (evr u.world) (evr entered) a next.grows (good k a x nt)) in
+              (let z = h.stack in let y = p.1 in omega (arith, z, y, stack, total))
+              (λ o lt. subst (λ b. is_held g (evr entered) ((b + o) / 2 ^ g) ≡ true) (sym stack) (held ((stack_under g u.world.stack es + o) / 2 ^ g) (frame_held g es (stack_under g u.world.stack es) o p.0 (subst (λ n. o < n) (sym total) lt))))
+              (λ k a x nt. Rattle.flat_verify.proofs.Blocks.good_more g (evr u.world) (evr entered) a next.grows (good k a x nt)) in
               (r.0, left (body_with (act_all g deeper m fn.frame fn.body) args (point v.words entered)) next r.1)
 
     defined_safe : (number : ℕ) (fn : FFunction) (args : List ℕ) (u : FPoint) → slice_get fs number ≡ Some fn → fn.line ≢ 0 → Holds g globals u.world → Goods number args u.world
-      → InDefined g frames m (is_safe_step g globals fs) deeper inside number fn args (slice_get frames number) u × CallLands g globals fs laws number u (defined g frames m deeper number fn args u)
+        → InDefined g frames m (is_safe_step g globals fs) deeper inside number fn args (slice_get frames number) u × CallLands g globals fs laws number u (defined g frames m deeper number fn args u)
     defined_safe number fn args u is line h good =
         let fr = frames_are number fn is line in
         subst (λ o. InDefined g frames m (is_safe_step g globals fs) deeper inside number fn args o u × CallLands g globals fs laws number u (framed_if g fn.line (act_all g deeper m fn.frame fn.body) args o (point u.words (spend (call_charge fn) u.world)))) (sym fr.is)
-          (framed_safe number fn args u is h good fr.exponents fr.decline fr.total)
+        (framed_safe number fn args u is h good fr.exponents fr.decline fr.total)
 
   -- a call of a function, by whether it is a body of the library
   abbrev Split : (n number : ℕ) → FFunction → (args : List ℕ) → FPoint → Bool → Type 0
@@ -278,10 +279,10 @@ module _ (g : ℕ) (globals : List Block) (code : FCode) (laws : Laws) (frames :
   calls_safe : (n : ℕ) → CallsSafe g globals fs laws (calls g frames m fs n) (InCalls g frames m (is_safe_step g globals fs) fs n)
   calls_safe zero number fn args u is count h good =
       subst (λ o. InNone g frames m (is_safe_step g globals fs) o number args u × CallLands g globals fs laws number u (call_none g frames m fs o number args u)) (sym is)
-        (⊎_elim
-          (λ e. subst (λ t. either t (InLibrary g frames m (is_safe_step g globals fs) number fn args) nothing u × CallLands g globals fs laws number u (choose t (library g frames m fn args) (counted fn.line (λ z. Answer.Ends Ending.Cut z)) u)) (sym e.0) (library_safe number fn args u is e.1 h good))
-          (λ e. subst (λ t. either t (InLibrary g frames m (is_safe_step g globals fs) number fn args) nothing u × CallLands g globals fs laws number u (choose t (library g frames m fn args) (counted fn.line (λ z. Answer.Ends Ending.Cut z)) u)) (sym e.0) (tt, deep (nat_le MOST_CALLS u.world.depth)))
-          (eqb_tells fn.line 0))
+      (⊎_elim
+      (λ e. subst (λ t. either t (InLibrary g frames m (is_safe_step g globals fs) number fn args) nothing u × CallLands g globals fs laws number u (choose t (library g frames m fn args) (counted fn.line (λ z. Answer.Ends Ending.Cut z)) u)) (sym e.0) (library_safe number fn args u is e.1 h good))
+      (λ e. subst (λ t. either t (InLibrary g frames m (is_safe_step g globals fs) number fn args) nothing u × CallLands g globals fs laws number u (choose t (library g frames m fn args) (counted fn.line (λ z. Answer.Ends Ending.Cut z)) u)) (sym e.0) (tt, deep (nat_le MOST_CALLS u.world.depth)))
+      (eqb_tells fn.line 0))
     where
       deep : (t : Bool) → CallLands g globals fs laws number u (choose t (λ z. Answer.Ends (Ending.Reported report.Depth fn.line) z) (λ z. Answer.Ends Ending.Cut z) u)
       deep true = h
@@ -289,14 +290,14 @@ module _ (g : ℕ) (globals : List Block) (code : FCode) (laws : Laws) (frames :
   calls_safe (suc n) number fn args u is count h good =
       let d = λ (line : fn.line ≢ 0). defined_safe (calls g frames m fs n) (InCalls g frames m (is_safe_step g globals fs) fs n) (calls_safe n) number fn args u is line h good in
       subst (λ o. InOne g frames m (is_safe_step g globals fs) (calls g frames m fs n) (InCalls g frames m (is_safe_step g globals fs) fs n) o number args u × CallLands g globals fs laws number u (call_one g frames m fs (calls g frames m fs n) o number args u)) (sym is)
-        (⊎_elim
-          (λ e. subst (λ t. Split n number fn args u t) (sym e.0) (library_safe number fn args u is e.1 h good))
-          (λ e. subst (λ t. Split n number fn args u t) (sym e.0) (deep (nat_le MOST_CALLS u.world.depth) (d e.1)))
-          (eqb_tells fn.line 0))
+      (⊎_elim
+      (λ e. subst (λ t. Split n number fn args u t) (sym e.0) (library_safe number fn args u is e.1 h good))
+      (λ e. subst (λ t. Split n number fn args u t) (sym e.0) (deep (nat_le MOST_CALLS u.world.depth) (d e.1)))
+      (eqb_tells fn.line 0))
     where
       deep : (t : Bool) → (InDefined g frames m (is_safe_step g globals fs) (calls g frames m fs n) (InCalls g frames m (is_safe_step g globals fs) fs n) number fn args (slice_get frames number) u × CallLands g globals fs laws number u (defined g frames m (calls g frames m fs n) number fn args u))
-        → either t nothing (InDefined g frames m (is_safe_step g globals fs) (calls g frames m fs n) (InCalls g frames m (is_safe_step g globals fs) fs n) number fn args (slice_get frames number)) u
-        × CallLands g globals fs laws number u (choose t (λ z. Answer.Ends (Ending.Reported report.Depth fn.line) z) (defined g frames m (calls g frames m fs n) number fn args) u)
+          → either t nothing (InDefined g frames m (is_safe_step g globals fs) (calls g frames m fs n) (InCalls g frames m (is_safe_step g globals fs) fs n) number fn args (slice_get frames number)) u
+          × CallLands g globals fs laws number u (choose t (λ z. Answer.Ends (Ending.Reported report.Depth fn.line) z) (defined g frames m (calls g frames m fs n) number fn args) u)
       deep true r = (tt, h)
       deep false r = r
 

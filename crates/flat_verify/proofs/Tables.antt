@@ -6,7 +6,7 @@ use Rattle.flat_code.specs.Code.{FStep}
 use Rattle.flat_code.specs.Recognized.{Sequence}
 use Rattle.flat_verify.specs.Items.{Item, Items, places, all_places, first_place}
 use Rattle.flat_verify.specs.Facts.{Fact, Setting, Here, untold, branch, here_after}
-use Rattle.flat_verify.specs.Chains.{Leading, leading, leads, Edges}
+use Rattle.flat_verify.specs.Chains.{Leading, leading, leads}
 use Rattle.flat_verify.specs.Closed.{Known, Covers, known_after, Each, EachAll, HandsOver as HandsArgs}
 use Rattle.flat_verify.specs.Derivations.{Signs, implied, passes_known, hands, Leads, Good, Goods, at_start}
 
@@ -59,7 +59,6 @@ some_places gg (Item.Loop a) = omega arith
 some_places gg (Item.Inner a) = omega arith
 
 module _ (gg : ℕ) (s : Setting) (sg : Signs) (gives : Bool) where
-
   -- what is known at an item: at a loop, what is known at its head
   abbrev pub head : (E : List Known) (h : Here) (K : Known) (i : Item) (N : Known) → Good gg s sg gives E h K i N → Known
   head E h K (Item.Plain x) N d = K
@@ -89,8 +88,9 @@ module _ (gg : ℕ) (s : Setting) (sg : Signs) (gives : Bool) where
     agree_in T T' (Item.Plain x) E h K N d p same f = tt
     agree_in T T' (Item.Checks x) E h K N d p same f = tt
     agree_in T T' (Item.If c a b) E h K N d p same f = (
-        agree_all T T' a E (branch h c) K N d.2 (p + 1) (λ q lo hi. same q (omega (arith, lo)) (omega (arith, hi))) f.0,
-        agree_all T T' b E untold K N d.3 (p + 1 + all_places gg a) (λ q lo hi. same q (omega (arith, lo)) (omega (arith, hi))) f.1)
+      agree_all T T' a E (branch h c) K N d.2 (p + 1) (λ q lo hi. same q (omega (arith, lo)) (omega (arith, hi))) f.0,
+      agree_all T T' b E untold K N d.3 (p + 1 + all_places gg a) (λ q lo hi. same q (omega (arith, lo)) (omega (arith, hi))) f.1,
+    )
     agree_in T T' (Item.Block a) E h K N d p same f = agree_all T T' a (N ∷ E) untold K N d (p + 1) (λ q lo hi. same q (omega (arith, lo)) (omega (arith, hi))) f
     agree_in T T' (Item.Loop a) E h K N d p same f = agree_all T T' a (N ∷ E) untold d.0 d.0 d.2 (p + 1) (λ q lo hi. same q (omega (arith, lo)) (omega (arith, hi))) f
     agree_in T T' (Item.Inner a) E h K N d p same f = agree_all T T' a (N ∷ E) untold d.0 d.0 d.2 (p + 1) (λ q lo hi. same q (omega (arith, lo)) (omega (arith, hi))) f
@@ -98,10 +98,11 @@ module _ (gg : ℕ) (s : Setting) (sg : Signs) (gives : Bool) where
     pub agree_all : (T T' : ℕ → Known) (is : Items) (E : List Known) (h : Here) (K M : Known) (d : Goods gg s sg gives E h K is M) (p : ℕ) → ((q : ℕ) → p ≤ q → q < p + all_places gg is → T' q ≡ T q) → FitsAll T is E h K M d p → FitsAll T' is E h K M d p
     agree_all T T' Items.end E h K M d p same f = tt
     agree_all T T' (Items.next i rest) E h K M d p same f =
-        let some : 1 ≤ places gg i = some_places gg i in
-        (same p (omega arith) (omega (arith, some)) ∙ f.0,
-         agree_in T T' i E h K d.0 d.1 p (λ q lo hi. same q (omega (arith, lo)) (omega (arith, hi))) f.1,
-         agree_all T T' rest E (here_after i h) d.0 M d.2 (p + places gg i) (λ q lo hi. same q (omega (arith, lo)) (omega (arith, hi))) f.2)
+        let some : 1 ≤ places gg i = some_places gg i in (
+          same p (omega arith) (omega (arith, some)) ∙ f.0,
+          agree_in T T' i E h K d.0 d.1 p (λ q lo hi. same q (omega (arith, lo)) (omega (arith, hi))) f.1,
+          agree_all T T' rest E (here_after i h) d.0 M d.2 (p + places gg i) (λ q lo hi. same q (omega (arith, lo)) (omega (arith, hi))) f.2,
+        )
 
   -- the table
   abbrev mutual
@@ -123,9 +124,10 @@ module _ (gg : ℕ) (s : Setting) (sg : Signs) (gives : Bool) where
     fits_in (Item.Checks x) E h K N d p = tt
     fits_in (Item.If c a b) E h K N d p =
         let one : ℕ → Known = table a E (branch h c) K N d.2 (p + 1) in
-        let two : ℕ → Known = table b E untold K N d.3 (p + 1 + all_places gg a) in
-        (agree_all one (table_in (Item.If c a b) E h K N d p) a E (branch h c) K N d.2 (p + 1) (λ q lo hi. ap (λ t. cond t (one q) (two q)) (yes_lt q (p + 1 + all_places gg a) hi)) (fits_all a E (branch h c) K N d.2 (p + 1)),
-         agree_all two (table_in (Item.If c a b) E h K N d p) b E untold K N d.3 (p + 1 + all_places gg a) (λ q lo hi. ap (λ t. cond t (one q) (two q)) (no_lt q (p + 1 + all_places gg a) lo)) (fits_all b E untold K N d.3 (p + 1 + all_places gg a)))
+        let two : ℕ → Known = table b E untold K N d.3 (p + 1 + all_places gg a) in (
+          agree_all one (table_in (Item.If c a b) E h K N d p) a E (branch h c) K N d.2 (p + 1) (λ q lo hi. ap (λ t. cond t (one q) (two q)) (yes_lt q (p + 1 + all_places gg a) hi)) (fits_all a E (branch h c) K N d.2 (p + 1)),
+          agree_all two (table_in (Item.If c a b) E h K N d p) b E untold K N d.3 (p + 1 + all_places gg a) (λ q lo hi. ap (λ t. cond t (one q) (two q)) (no_lt q (p + 1 + all_places gg a) lo)) (fits_all b E untold K N d.3 (p + 1 + all_places gg a)),
+        )
     fits_in (Item.Block a) E h K N d p = fits_all a (N ∷ E) untold K N d (p + 1)
     fits_in (Item.Loop a) E h K N d p = fits_all a (N ∷ E) untold d.0 d.0 d.2 (p + 1)
     fits_in (Item.Inner a) E h K N d p = fits_all a (N ∷ E) untold d.0 d.0 d.2 (p + 1)
@@ -137,10 +139,11 @@ module _ (gg : ℕ) (s : Setting) (sg : Signs) (gives : Bool) where
         let top : Known = head E h K i d.0 d.1 in
         let one : ℕ → Known = table_in i E h K d.0 d.1 p in
         let two : ℕ → Known = table rest E (here_after i h) d.0 M d.2 (p + places gg i) in
-        let all : ℕ → Known = table (Items.next i rest) E h K M d p in
-        (ap (λ t. cond t top (cond (nat_lt p (p + places gg i)) (one p) (two p))) (yes_eq p p refl),
-         agree_in one all i E h K d.0 d.1 p (λ q lo hi. ap (λ t. cond t top (cond (nat_lt q (p + places gg i)) (one q) (two q))) (no_eq q p lo) ∙ ap (λ t. cond t (one q) (two q)) (yes_lt q (p + places gg i) hi)) (fits_in i E h K d.0 d.1 p),
-         agree_all two all rest E (here_after i h) d.0 M d.2 (p + places gg i) (λ q lo hi. ap (λ t. cond t top (cond (nat_lt q (p + places gg i)) (one q) (two q))) (no_eq q p (omega (arith, lo, some))) ∙ ap (λ t. cond t (one q) (two q)) (no_lt q (p + places gg i) lo)) (fits_all rest E (here_after i h) d.0 M d.2 (p + places gg i)))
+        let all : ℕ → Known = table (Items.next i rest) E h K M d p in (
+          ap (λ t. cond t top (cond (nat_lt p (p + places gg i)) (one p) (two p))) (yes_eq p p refl),
+          agree_in one all i E h K d.0 d.1 p (λ q lo hi. ap (λ t. cond t top (cond (nat_lt q (p + places gg i)) (one q) (two q))) (no_eq q p lo) ∙ ap (λ t. cond t (one q) (two q)) (yes_lt q (p + places gg i) hi)) (fits_in i E h K d.0 d.1 p),
+          agree_all two all rest E (here_after i h) d.0 M d.2 (p + places gg i) (λ q lo hi. ap (λ t. cond t top (cond (nat_lt q (p + places gg i)) (one q) (two q))) (no_eq q p (omega (arith, lo, some))) ∙ ap (λ t. cond t (one q) (two q)) (no_lt q (p + places gg i) lo)) (fits_all rest E (here_after i h) d.0 M d.2 (p + places gg i)),
+        )
 
   -- ---- closed
 
@@ -178,7 +181,6 @@ module _ (gg : ℕ) (s : Setting) (sg : Signs) (gives : Bool) where
 
 -- parameters are at the start as the signs say
 module _ (s : Setting) (sg : Signs) (gives : Bool) (starts : ℕ → Known) (started : (g params : ℕ) → s.params_of g ≡ Some params → Covers (starts g) (at_start (sg.takes g) params)) where
-
   both : (a b : Bool) → (a && b) ≡ true → (a ≡ true) × (b ≡ true)
   both true b h = (refl, h)
   both false b h = absurd (true≢false (sym h))
@@ -220,7 +222,6 @@ module _ (s : Setting) (sg : Signs) (gives : Bool) (starts : ℕ → Known) (sta
   step_hands (FStep.LineMark a) K h = tt
 
 module _ (gg : ℕ) (s : Setting) (sg : Signs) (g : ℕ) (starts : ℕ → Known) (started : (k params : ℕ) → s.params_of k ≡ Some params → Covers (starts k) (at_start (sg.takes k) params)) (T : ℕ → Known) where
-
   abbrev P : Here → Item → ℕ → Option ℕ → Type 0
   P = Passes s sg.gives g starts T
 
@@ -231,32 +232,37 @@ module _ (gg : ℕ) (s : Setting) (sg : Signs) (g : ℕ) (starts : ℕ → Known
   mutual
     pub closed_in : (i : Item) (E : List Known) (h : Here) (K N : Known) (d : Good gg s sg (sg.gives g) E h K i N) (p after : ℕ) (exits : List ℕ) → T p ≡ head gg s sg (sg.gives g) E h K i N d → FitsIn gg s sg (sg.gives g) T i E h K N d p → Covers (T after) N → Paired gg s sg (sg.gives g) T exits E → Each gg P h i p after exits
     closed_in (Item.Plain x) E h K N d p after exits e f c pair = record {
-        covers = leads_by gg s sg (sg.gives g) (leading x) T after exits N E (known_after s sg.gives h (Item.Plain x) (T p)) c pair (subst (λ X. Leads (leads (leading x) N E) (known_after s sg.gives h (Item.Plain x) X)) (sym e) d.1);
-        handed = subst (λ X. HandsOver s (sg.gives g) starts x X) (sym e) (step_hands s sg (sg.gives g) starts started x K d.0.handed);
-      }
+      covers = leads_by gg s sg (sg.gives g) (leading x) T after exits N E (known_after s sg.gives h (Item.Plain x) (T p)) c pair (subst (λ X. Leads (leads (leading x) N E) (known_after s sg.gives h (Item.Plain x) X)) (sym e) d.1);
+      handed = subst (λ X. HandsOver s (sg.gives g) starts x X) (sym e) (step_hands s sg (sg.gives g) starts started x K d.0.handed);
+    }
     closed_in (Item.Checks x) E h K N d p after exits e f c pair = record {
-        covers = stays h (Item.Checks x) K p after e (λ y k. d.3 y (c y k));
-        handed = tt;
-      }
+      covers = stays h (Item.Checks x) K p after e (λ y k. d.3 y (c y k));
+      handed = tt;
+    }
     closed_in (Item.If k a b) E h K N d p after exits e f c pair = (
-        record { covers = stays h (Item.If k a b) K p (first_place a (p + 1) after) e (start_covers gg s sg (sg.gives g) a T E (branch h k) K N d.2 (p + 1) after f.0 c); handed = tt },
-        record { covers = stays h (Item.If k a b) K p (first_place b (p + 1 + all_places gg a) after) e (start_covers gg s sg (sg.gives g) b T E untold K N d.3 (p + 1 + all_places gg a) after f.1 c); handed = tt },
-        closed_all a E (branch h k) K N d.2 (p + 1) after exits f.0 c pair,
-        closed_all b E untold K N d.3 (p + 1 + all_places gg a) after exits f.1 c pair)
+      record { covers = stays h (Item.If k a b) K p (first_place a (p + 1) after) e (start_covers gg s sg (sg.gives g) a T E (branch h k) K N d.2 (p + 1) after f.0 c); handed = tt },
+      record { covers = stays h (Item.If k a b) K p (first_place b (p + 1 + all_places gg a) after) e (start_covers gg s sg (sg.gives g) b T E untold K N d.3 (p + 1 + all_places gg a) after f.1 c); handed = tt },
+      closed_all a E (branch h k) K N d.2 (p + 1) after exits f.0 c pair,
+      closed_all b E untold K N d.3 (p + 1 + all_places gg a) after exits f.1 c pair,
+    )
     closed_in (Item.Block a) E h K N d p after exits e f c pair = (
-        record { covers = stays h (Item.Block a) K p (first_place a (p + 1) after) e (start_covers gg s sg (sg.gives g) a T (N ∷ E) untold K N d (p + 1) after f c); handed = tt },
-        closed_all a (N ∷ E) untold K N d (p + 1) after (after ∷ exits) f c (c, pair))
+      record { covers = stays h (Item.Block a) K p (first_place a (p + 1) after) e (start_covers gg s sg (sg.gives g) a T (N ∷ E) untold K N d (p + 1) after f c); handed = tt },
+      closed_all a (N ∷ E) untold K N d (p + 1) after (after ∷ exits) f c (c, pair),
+    )
     closed_in (Item.Loop a) E h K N d p after exits e f c pair =
-        let back : Covers (T p) d.0 = subst (λ X. Covers (T p) X) e (λ y k. k) in
-        (record { covers = stays h (Item.Loop a) d.0 p (first_place a (p + 1) p) e (start_covers gg s sg (sg.gives g) a T (N ∷ E) untold d.0 d.0 d.2 (p + 1) p f back); handed = tt },
-         closed_all a (N ∷ E) untold d.0 d.0 d.2 (p + 1) p (after ∷ exits) f back (c, pair))
+        let back : Covers (T p) d.0 = subst (λ X. Covers (T p) X) e (λ y k. k) in (
+          record { covers = stays h (Item.Loop a) d.0 p (first_place a (p + 1) p) e (start_covers gg s sg (sg.gives g) a T (N ∷ E) untold d.0 d.0 d.2 (p + 1) p f back); handed = tt },
+          closed_all a (N ∷ E) untold d.0 d.0 d.2 (p + 1) p (after ∷ exits) f back (c, pair),
+        )
     closed_in (Item.Inner a) E h K N d p after exits e f c pair =
-        let back : Covers (T p) d.0 = subst (λ X. Covers (T p) X) e (λ y k. k) in
-        (record { covers = stays h (Item.Inner a) d.0 p (first_place a (p + 1) p) e (start_covers gg s sg (sg.gives g) a T (N ∷ E) untold d.0 d.0 d.2 (p + 1) p f back); handed = tt },
-         closed_all a (N ∷ E) untold d.0 d.0 d.2 (p + 1) p (after ∷ exits) f back (c, pair))
+        let back : Covers (T p) d.0 = subst (λ X. Covers (T p) X) e (λ y k. k) in (
+          record { covers = stays h (Item.Inner a) d.0 p (first_place a (p + 1) p) e (start_covers gg s sg (sg.gives g) a T (N ∷ E) untold d.0 d.0 d.2 (p + 1) p f back); handed = tt },
+          closed_all a (N ∷ E) untold d.0 d.0 d.2 (p + 1) p (after ∷ exits) f back (c, pair),
+        )
 
     pub closed_all : (is : Items) (E : List Known) (h : Here) (K M : Known) (d : Goods gg s sg (sg.gives g) E h K is M) (p after : ℕ) (exits : List ℕ) → FitsAll gg s sg (sg.gives g) T is E h K M d p → Covers (T after) M → Paired gg s sg (sg.gives g) T exits E → EachAll gg P h is p after exits
     closed_all Items.end E h K M d p after exits f c pair = tt
     closed_all (Items.next i rest) E h K M d p after exits f c pair = (
-        closed_in i E h K d.0 d.1 p (first_place rest (p + places gg i) after) exits f.0 f.1 (start_covers gg s sg (sg.gives g) rest T E (here_after i h) d.0 M d.2 (p + places gg i) after f.2 c) pair,
-        closed_all rest E (here_after i h) d.0 M d.2 (p + places gg i) after exits f.2 c pair)
+      closed_in i E h K d.0 d.1 p (first_place rest (p + places gg i) after) exits f.0 f.1 (start_covers gg s sg (sg.gives g) rest T E (here_after i h) d.0 M d.2 (p + places gg i) after f.2 c) pair,
+      closed_all rest E (here_after i h) d.0 M d.2 (p + places gg i) after exits f.2 c pair,
+    )

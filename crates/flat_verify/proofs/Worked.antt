@@ -1,9 +1,9 @@
 -- Where the examples break the discipline.
-use Rattle.std.proofs.Common.{◌≡◌, ℕ, List, [], ◌∷◌, inl, inr, Option, Some, None, refl, arith, ◌<◌}
-use Rattle.flat_code.specs.Code.{FFunction, FCode}
+use Rattle.std.proofs.Common.{ℕ, [], ◌∷◌, inl, inr, Some, None, refl, arith, ◌<◌}
+use Rattle.flat_code.specs.Code.{FCode}
 use Rattle.flat_verify.specs.Facts.{Fact}
-use Rattle.flat_verify.specs.Chains.{Spot, Lost}
-use Rattle.flat_verify.specs.Discipline.{LostAt, ResultLost}
+use Rattle.flat_verify.specs.Chains.{Lost}
+use Rattle.flat_verify.specs.Discipline.{LostAt}
 use Rattle.flat_verify.specs.Examples.{globals, ExamplesBreak, number_loaded, number_moved, loaded_unchecked, far_mask, no_span, tainted_argument, tainted_result, temporary_read}
 
 abbrev Tainted : FCode → (function place value : ℕ) → Type 0
@@ -43,24 +43,25 @@ temporary_lost = Lost.begins 0 _ _ 3 35 (Fact.Own 4) refl (inr (inr (inr (inl (r
 
 pub examples_break : ExamplesBreak
 examples_break = (
-    inl (refl, refl),
-    inl (refl, refl),
-    inl (refl, refl),
-    inl (refl, refl),
-    (refl, refl),
-    inr (inr (inl (inr (inl (inr (inl (refl, inl refl))))))),
-    inr (inl (inl (refl, inl refl))),
-    inr (inr (inl (refl, inl refl))),
-    inr (inl (refl, inl refl)),
-    inr (inr (inl (refl, inl refl))),
-    inr (inl (refl, inl refl)),
-    inr (inr (inl (refl, inl refl))),
-    inr (inr (inl (refl, inl refl))),
-    inr (inr (inr (inr (inr (inl (refl, inr (inr (inl temporary_lost)))))))),
-    inr (inr (inl (refl, inr (inl loaded_tainted)))),
-    inr (inr (inr (inr (inl (inl (refl, moved_tainted)))))),
-    inr (inr (inr (inl (refl, inr (inl unchecked_tainted))))),
-    inr (inr (inr (inr (inr (inl (refl, inr (inl mask_tainted))))))),
-    inr (inr (inr (inr (inr (inl (inr (inl (inr (inl (refl, inr (inl element_tainted))))))))))),
-    inr (inl (refl, inr (inl argument_tainted))),
-    inr (inr (inl (refl, inr (inl result_tainted)))))
+  inl (refl, refl),
+  inl (refl, refl),
+  inl (refl, refl),
+  inl (refl, refl),
+  (refl, refl),
+  inr (inr (inl (inr (inl (inr (inl (refl, inl refl))))))),
+  inr (inl (inl (refl, inl refl))),
+  inr (inr (inl (refl, inl refl))),
+  inr (inl (refl, inl refl)),
+  inr (inr (inl (refl, inl refl))),
+  inr (inl (refl, inl refl)),
+  inr (inr (inl (refl, inl refl))),
+  inr (inr (inl (refl, inl refl))),
+  inr (inr (inr (inr (inr (inl (refl, inr (inr (inl temporary_lost)))))))),
+  inr (inr (inl (refl, inr (inl loaded_tainted)))),
+  inr (inr (inr (inr (inl (inl (refl, moved_tainted)))))),
+  inr (inr (inr (inl (refl, inr (inl unchecked_tainted))))),
+  inr (inr (inr (inr (inr (inl (refl, inr (inl mask_tainted))))))),
+  inr (inr (inr (inr (inr (inl (inr (inl (inr (inl (refl, inr (inl element_tainted))))))))))),
+  inr (inl (refl, inr (inl argument_tainted))),
+  inr (inr (inl (refl, inr (inl result_tainted)))),
+)

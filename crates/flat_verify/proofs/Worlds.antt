@@ -1,24 +1,23 @@
 -- Worlds in which all that was told is safe, and how blocks come and go in them.
-use Rattle.std.proofs.Common.{◌≡◌, ◌≢◌, ◌⊎◌, ℕ, zero, suc, ◌+◌, ◌-◌, ◌*◌, ◌/◌, ◌%◌, ◌^◌, ◌<◌, ◌≤◌, List, [], ◌∷◌, ◌++◌, reverse, Option, Some, None, Bool, true, false, cond, inl, inr, refl, sym, ap, ◌∙◌, subst, arith, true≢false, pow_pos, pow-add, mul_assoc, nat_lt, nat_le}
+use Rattle.std.proofs.Common.{◌≡◌, ◌⊎◌, ℕ, ◌+◌, ◌-◌, ◌*◌, ◌/◌, ◌%◌, ◌^◌, ◌<◌, ◌≤◌, List, [], ◌∷◌, ◌++◌, Bool, true, false, cond, inl, inr, refl, sym, ap, ◌∙◌, subst, arith, true≢false, pow_pos, pow-add, mul_assoc, nat_lt, nat_le}
 use Rattle.std.specs.Prelude.{◌==◌, ◌&&◌, ◌||◌}
 use Rattle.std.proofs.Math.Pow.{pow_mono}
 use Rattle.std.proofs.lemmas.Bool.{cases_lt}
-use Rattle.std.proofs.lemmas.Bool.Decides.{nat_tests}
-use Rattle.std.proofs.lemmas.Nat.{div-add-mod', mod_below, mod-mul-add}
+use Rattle.std.proofs.lemmas.Nat.{div-add-mod', mod-mul-add}
 use Rattle.marked_ptr.specs.Laws.{IsPlaced, OwnerIsBlock, MovesAreOffsets, MovesStayInReach}
-use Rattle.size_table.specs.declared.memory_map.TheConstants.{GLOBALS_START, STACK_START, HEAP_START, MEMORY_END, MOST_BYTES}
-use Rattle.size_table.specs.Blocks.{Block, block_at, holds, end_of, without}
+use Rattle.size_table.specs.declared.memory_map.TheConstants.{GLOBALS_START, HEAP_START, MEMORY_END}
+use Rattle.size_table.specs.Blocks.{Block, block_at, holds, without}
 use Rattle.size_table.specs.Made.{blocks_from}
-use Rattle.size_table.specs.Pads.{exponent_of, IsExponentOf, ExponentIsLeast}
-use Rattle.buddy_heap.specs.Places.{place_of, block_from, IsRoom, IsPlaceOf, PlaceIsLeast}
-use Rattle.flat_code.specs.Told.{Tell, Stamped, tells}
-use Rattle.flat_code.specs.World.{FWorld, FPoint, point, tell}
-use Rattle.flat_code.specs.Accounts.{make, end, make_all, end_all, frame_size, alignment, stack_under}
+use Rattle.size_table.specs.Pads.{ExponentIsLeast}
+use Rattle.buddy_heap.specs.Places.{PlaceIsLeast}
+use Rattle.flat_code.specs.Told.{Tell, tells}
+use Rattle.flat_code.specs.World.{FWorld}
+use Rattle.flat_code.specs.Accounts.{make, end, make_all, end_all, frame_size}
 use Rattle.flat_code.specs.Safety.{live_after, ever_after, live_of, ever_of, IsSafe, AllSafe}
 use Rattle.flat_code.specs.Laws.{TellsAppend, LiveAppends, EverAppends, SafeAppends, MoveSequenceMoves, LoadSequenceLoads, LoadSequenceStops}
 use Rattle.flat_verify.specs.Facts.{lies_in, reach_past}
 use Rattle.flat_verify.specs.Safe.{Decline, AreGlobals}
-use Rattle.flat_verify.proofs.Blocks.{both, le_of, lt_of, is_le, is_lt, ArePlaced, is_held, Within, placed_append, held_left, held_right, held_append, holds_slot}
+use Rattle.flat_verify.proofs.Blocks.{le_of, lt_of, ArePlaced, is_held, Within, placed_append, held_left, held_right, held_append, holds_slot}
 
 -- the laws of the crates below that are used
 pub record Laws : Type 0 where
@@ -59,9 +58,10 @@ next_aligned e n h = one_further n (2 ^ e) (pow_pos e) h
 pub decline_placed : (g most : ℕ) (es : List ℕ) (base : ℕ) → 1 ≤ g → most ≤ 24 → Decline g most es → base % 2 ^ most ≡ 0 → GLOBALS_START ≤ base → base + frame_size es ≤ MEMORY_END → ArePlaced g (blocks_from base es)
 decline_placed g most [] base slot small d aligned low high = tt
 decline_placed g most (e ∷ es) base slot small d aligned low high =
-    let at : base % 2 ^ e ≡ 0 = less_exponent e most d.1 base aligned in
-    (record { slot = slot; least = d.0; most = omega (arith, d.1, small); aligned = at; low = low; high = (let z : base + 2 ^ e ≤ 0x2000000 = omega (arith, high) in z) },
-     decline_placed g e es (base + 2 ^ e) slot (omega (arith, d.1, small)) d.2 (next_aligned e base at) (omega (arith, low)) (omega (arith, high)))
+    let at : base % 2 ^ e ≡ 0 = less_exponent e most d.1 base aligned in (
+      record { slot = slot; least = d.0; most = omega (arith, d.1, small); aligned = at; low = low; high = (let z : base + 2 ^ e ≤ 0x2000000 = omega (arith, high) in z) },
+      decline_placed g e es (base + 2 ^ e) slot (omega (arith, d.1, small)) d.2 (next_aligned e base at) (omega (arith, low)) (omega (arith, high)),
+    )
 
 -- an address among them is in a slot that they hold
 pub frame_held : (g : ℕ) (es : List ℕ) (base o : ℕ) → ArePlaced g (blocks_from base es) → o < frame_size es → is_held g (blocks_from base es) ((base + o) / 2 ^ g) ≡ true
@@ -169,10 +169,10 @@ module _ (g : ℕ) (globals : List Block) where
 
     pub made_next : (w : FWorld) (b : Block) → Holds w → IsPlaced g b.base b.exponent → Next w (make b w)
     made_next w b h is = record {
-        holds = told_holds w (make b w) w.time (Tell.Made b.base b.exponent) refl h refl tt (placed_append g w.live (b ∷ []) h.placed (is, tt)) (placed_append g (ever w) (b ∷ []) h.placed_ever (is, tt))
+      holds = told_holds w (make b w) w.time (Tell.Made b.base b.exponent) refl h refl tt (placed_append g w.live (b ∷ []) h.placed (is, tt)) (placed_append g (ever w) (b ∷ []) h.placed_ever (is, tt))
           (held_append g w.live (b ∷ []) (ever w ++ (b ∷ [])) (λ s x. held_left g (ever w) (b ∷ []) s (h.within s x)) (λ s x. held_right g (ever w) (b ∷ []) s x)) h.stack;
-        grows = λ s x. subst (λ l. is_held g l s ≡ true) (sym (ever_is w (make b w) w.time (Tell.Made b.base b.exponent) refl)) (held_left g (ever w) (b ∷ []) s x);
-      }
+      grows = λ s x. subst (λ l. is_held g l s ≡ true) (sym (ever_is w (make b w) w.time (Tell.Made b.base b.exponent) refl)) (held_left g (ever w) (b ∷ []) s x);
+    }
 
     pub made_held : (w : FWorld) (b : Block) (s : ℕ) → holds g b s ≡ true → is_held g (ever (make b w)) s ≡ true
     made_held w b s x = subst (λ l. is_held g l s ≡ true) (sym (ever_is w (make b w) w.time (Tell.Made b.base b.exponent) refl)) (held_right g (ever w) (b ∷ []) s (ap (λ t. t || false) x))
@@ -199,10 +199,10 @@ module _ (g : ℕ) (globals : List Block) where
 
     pub ended_next : (w : FWorld) (b : Block) → Holds w → Next w (end b w)
     ended_next w b h = record {
-        holds = told_holds w (end b w) w.time (Tell.Ended b.base b.exponent) refl h refl tt (placed_without b.base w.live h.placed) h.placed_ever
+      holds = told_holds w (end b w) w.time (Tell.Ended b.base b.exponent) refl h refl tt (placed_without b.base w.live h.placed) h.placed_ever
           (λ s x. h.within s (held_without b.base w.live s x)) h.stack;
-        grows = λ s x. subst (λ l. is_held g l s ≡ true) (sym (ever_is w (end b w) w.time (Tell.Ended b.base b.exponent) refl)) x;
-      }
+      grows = λ s x. subst (λ l. is_held g l s ≡ true) (sym (ever_is w (end b w) w.time (Tell.Ended b.base b.exponent) refl)) x;
+    }
 
     pub made_all_next : (bs : List Block) (w : FWorld) → Holds w → ArePlaced g bs → Next w (make_all bs w)
     made_all_next [] w h are = record { holds = h; grows = λ s x. x }

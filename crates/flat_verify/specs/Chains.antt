@@ -1,6 +1,6 @@
 -- A fact is lost at a place exactly where a finite chain shows it.
 use Rattle.std.specs.Prelude.{◌≡◌, ◌<◌, ◌⊎◌, ℕ, zero, suc, ◌+◌, Bool, true, ◌&&◌, List, [], ◌∷◌, Option, Some, None, nat_lt, slice_get}
-use Rattle.flat_code.specs.Code.{FStep, FSteps}
+use Rattle.flat_code.specs.Code.{FStep}
 use Rattle.flat_verify.specs.Items.{Item, Items, places, all_places, first_place}
 use Rattle.flat_verify.specs.Facts.{Fact, Source, Setting, Here, untold, branch, here_after, source}
 

@@ -1,6 +1,6 @@
 -- Tables of what is known before each item. A table that is closed along the edges knows no fact that a chain shows to be
 -- lost; one that is exact besides marks no other fact as lost. A verifier computes an exact one.
-use Rattle.std.specs.Prelude.{◌≡◌, ◌<◌, ℕ, ◌+◌, Bool, true, false, List, ◌∷◌, Option, Some, None, slice_get}
+use Rattle.std.specs.Prelude.{◌≡◌, ◌<◌, ℕ, ◌+◌, Bool, true, false, List, ◌∷◌, Option, Some, slice_get}
 use Rattle.flat_code.specs.Code.{FStep}
 use Rattle.flat_verify.specs.Items.{Item, Items, places, all_places, first_place}
 use Rattle.flat_verify.specs.Facts.{Fact, Source, Setting, Here, untold, branch, here_after, source}

@@ -1,9 +1,9 @@
 -- The discipline of flat code: which code is safe in every run, whatever memory holds.
-use Rattle.std.specs.Prelude.{◌≡◌, ◌<◌, ◌⊎◌, ◌==◌, ℕ, Bool, true, false, not, ◌&&◌, ◌||◌, List, [], ◌∷◌, Option, Some, None, nat_lt, nat_le, slice_get}
+use Rattle.std.specs.Prelude.{◌≡◌, ◌<◌, ◌⊎◌, ◌==◌, ℕ, Bool, false, not, ◌&&◌, ◌||◌, List, Option, Some, None, nat_le, slice_get}
 use Rattle.size_table.specs.Blocks.{Block}
-use Rattle.flat_code.specs.Code.{FStep, FSteps, FFunction, FCode}
-use Rattle.flat_verify.specs.Items.{Item, items_of}
-use Rattle.flat_verify.specs.Facts.{Fact, Setting, Here}
+use Rattle.flat_code.specs.Code.{FFunction, FCode}
+use Rattle.flat_verify.specs.Items.{items_of}
+use Rattle.flat_verify.specs.Facts.{Fact, Setting}
 use Rattle.flat_verify.specs.Chains.{Edges, body_edges, Spot, Lost}
 use Rattle.flat_verify.specs.Breaks.{BreaksAll}
 

@@ -2,7 +2,7 @@
 --
 -- The taint of values, the rule on temporaries and the spans of ranges are facts of one kind, so that one definition of
 -- chains serves all three.
-use Rattle.std.specs.Prelude.{◌==◌, ℕ, ◌+◌, Bool, true, false, not, ◌&&◌, ◌||◌, List, [], ◌∷◌, Option, Some, None, nat_lt, nat_le, slice_get, if◌then◌else◌}
+use Rattle.std.specs.Prelude.{◌==◌, ℕ, ◌+◌, Bool, true, false, not, ◌&&◌, ◌||◌, List, [], ◌∷◌, Option, Some, None, nat_lt, nat_le, if◌then◌else◌}
 use Rattle.bb_words.specs.declared.steps.ArithOp.{ArithOp}
 use Rattle.bb_words.specs.declared.steps.ArithOp.TheVariants as op
 use Rattle.size_table.specs.Blocks.{Block, end_of}

@@ -1,5 +1,5 @@
 -- What holds of the discipline.
-use Rattle.std.specs.Prelude.{◌≡◌, ◌==◌, not, ℕ, Bool, true, false, List, Option, Some, slice_get}
+use Rattle.std.specs.Prelude.{◌≡◌, ◌==◌, not, ℕ, Bool, true, false, List, Option, slice_get}
 use Rattle.size_table.specs.Blocks.{Block}
 use Rattle.bb_words.specs.declared.kinds.ReportKind.TheVariants.{Bounds}
 use Rattle.flat_code.specs.Code.{FStep, FSteps, ◌+++◌, FFunction, FCode}

@@ -1,12 +1,12 @@
 -- What the runs of disciplined code keep.
-use Rattle.std.specs.Prelude.{◌≡◌, ◌≢◌, ◌⊎◌, ◌==◌, ℕ, ◌-◌, ◌^◌, ◌<◌, ◌≤◌, List, [], ◌∷◌, length, Option, Some, None, IsSome, slice_get}
+use Rattle.std.specs.Prelude.{◌≡◌, ◌≢◌, ◌⊎◌, ℕ, ◌-◌, ◌^◌, ◌<◌, ◌≤◌, List, [], ◌∷◌, length, Option, Some, None, IsSome, slice_get}
 use Rattle.bb_words.specs.Steps.{size_of_width}
 use Rattle.bb_watch.specs.Live.{owner}
 use Rattle.size_table.specs.declared.memory_map.TheConstants.{GLOBALS_START, STACK_START}
 use Rattle.size_table.specs.Blocks.{Block}
 use Rattle.flat_code.specs.Code.{FStep, FFunction, FCode}
 use Rattle.flat_code.specs.Told.{tells}
-use Rattle.flat_code.specs.World.{FWorld, FPoint, Ending, Run}
+use Rattle.flat_code.specs.World.{FWorld, FPoint, Ending}
 use Rattle.size_table.specs.Made.{blocks_from}
 use Rattle.flat_code.specs.Accounts.{frame_size}
 use Rattle.flat_code.specs.Safety.{live_of, ever_of, AllSafe}
