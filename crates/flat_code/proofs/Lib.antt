@@ -1,4 +1,5 @@
 pub mod CodeViewed
+pub mod Emitted
 pub mod Words
 pub mod Move
 pub mod Advance

@@ -6,4 +6,7 @@
 #![tactic(auto)]
 
 pub mod code;
+pub mod emit;
 pub mod laws;
+#[cfg(test)]
+mod tests;
