@@ -8,5 +8,6 @@
 pub mod code;
 pub mod emit;
 pub mod laws;
+pub mod same;
 #[cfg(test)]
 mod tests;
