@@ -1,10 +1,10 @@
 -- Lists of steps that are put together, and taken apart.
-use Rattle.std.proofs.Common.{◌≡◌, ℕ, ◌+◌, ◌-◌, ◌<◌, ◌≤◌, false, List, [], ◌∷◌, ◌++◌, length, get_or, take, drop, refl, sym, ap, ◌∙◌, arith}
+use Rattle.std.proofs.Common.{◌≡◌, ℕ, zero, suc, ◌+◌, ◌-◌, ◌<◌, ◌≤◌, false, List, [], ◌∷◌, ◌++◌, length, get_or, take, drop, refl, sym, ap, ◌∙◌, arith}
 use Rattle.std.proofs.lemmas.List.{take_all}
 use Rattle.flat_code.specs.declared.code.FlatStep.{FlatStep}
 use Rattle.flat_code.specs.Code.{FStep, FSteps, ◌+++◌}
 use Rattle.flat_code.specs.CodeViews.{step_of, steps_of}
-use Rattle.flat_code.specs.Recognized.{same_steps}
+use Rattle.flat_code.specs.Recognized.{same_steps, step_at}
 
 -- one step after others
 pub one_more : (xs : List FlatStep) (x : FlatStep) → steps_of (xs ++ (x ∷ [])) ≡ steps_of xs +++ FSteps.more (step_of x) FSteps.none
@@ -41,3 +41,17 @@ pub short_long : (a b : List FlatStep) → length a < 1 → 1 ≤ length b → f
 short_long [] [] la lb = absurd (let q : ⊥ = omega (arith, lb) in q)
 short_long [] (s ∷ b) la lb = refl
 short_long (s ∷ a) b la lb = absurd (let q : ⊥ = omega (arith, la) in q)
+
+-- the step at a place of a list
+pub step_at_list : (l : List FlatStep) (n : ℕ) (x : FlatStep) → n < length l → x ≡ get_or l n x → step_at n (steps_of l) ≡ step_of x
+step_at_list [] n x lt e = absurd (let q : ⊥ = omega (arith, lt) in q)
+step_at_list (s ∷ l) zero x lt e = ap step_of (sym e)
+step_at_list (s ∷ l) (suc n) x lt e = step_at_list l n x (let q : n < length l = omega (arith, lt) in q) e
+
+pub step_at_none : (l : List FlatStep) (n : ℕ) → length l ≤ n → step_at n (steps_of l) ≡ FStep.Exit 0
+step_at_none [] zero le = refl
+step_at_none [] (suc n) le = refl
+step_at_none (s ∷ l) zero le = absurd (let q : ⊥ = omega (arith, le) in q)
+step_at_none (s ∷ l) (suc n) le = step_at_none l n (let q : length l ≤ n = omega (arith, le) in q)
+
+pub ruleset at_list = (step_at_list, step_at_none)

@@ -8,6 +8,7 @@
 pub mod code;
 pub mod emit;
 pub mod laws;
+pub mod recognize;
 pub mod same;
 #[cfg(test)]
 mod tests;
