@@ -1,5 +1,6 @@
 pub mod CodeViewed
 pub mod Emitted
+pub mod Picked
 pub mod Words
 pub mod Move
 pub mod Advance

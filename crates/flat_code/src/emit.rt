@@ -220,7 +220,7 @@ pub fn load_steps(alloc: Global, g: u8, v: LoadValues) -> Result<Vec<FlatStep>, 
 }
 
 /// The move from the first byte of a range to the last.
-fn move_of(v: SpanValues) -> MoveValues
+pub fn move_in(v: SpanValues) -> MoveValues
     ensures { result ≡ record { pointer = v.pointer; distance = v.distance; result = v.last; line = v.line; slot = v.slot; exponent = v.exponent } }
 {
     MoveValues {
@@ -240,7 +240,7 @@ fn touch_of(alloc: Global, g: u8, v: SpanValues) -> Result<Vec<FlatStep>, AllocE
     requires most { g ≤ 24 }
     ensures { IfOk result (λ x. steps_of x.items ≡ touch_steps g v.pointer v.count v.last v.line v.distance v.slot v.exponent) }
 {
-    let mut moving = move_steps(alloc, g, move_of(v))?;
+    let mut moving = move_steps(alloc, g, move_in(v))?;
     let mut steps = Vec::new(alloc);
     steps.push(load(v.distance, v.pointer, Width::Byte))?;
     steps.push(number(v.distance, 0xffff_ffff))?;

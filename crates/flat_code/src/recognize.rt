@@ -1,12 +1,15 @@
 //! Which sequence stands at the front of a list of steps.
 ghost use Rattle.std.specs.Prelude.{◌≡◌, ◌&&◌, ◌∷◌, [], IfOk, ◌≤◌};
 ghost use Rattle.flat_code.specs.CodeViews.{step_of, steps_of};
-ghost use Rattle.flat_code.specs.Recognized.{target, source, right_side, line_value, first_of, second_of, step_at, is_none_of, move_is_apart, move_of, load_of, span_of, starts};
+ghost use Rattle.flat_code.specs.Recognized.{sequence_at, is_apart, target, source, right_side, line_value, first_of, second_of, step_at, is_none_of, move_is_apart, move_of, load_of, span_of, starts};
+ghost use Rattle.flat_code.specs.SequenceViews.{sequence_in, begins};
 ghost use Rattle.flat_code.specs.Recognized.Sequence.{Move, Load, Span};
 ghost use Rattle.flat_code.specs.Sequences.{move_sequence, load_sequence, span_sequence};
 
 use crate::code::FlatStep;
-use crate::emit::{LoadValues, MoveValues, SpanValues, load_steps, move_steps, span_steps};
+use crate::emit::{
+    LoadValues, MoveValues, SpanValues, load_steps, move_in, move_steps, span_steps,
+};
 use crate::same::is_start;
 use std::alloc::{AllocError, Global};
 
@@ -191,4 +194,102 @@ fn span_values(steps: &[FlatStep]) -> SpanValues
         slot: target_at(touch, 3),
         exponent: target_at(touch, 4),
     }
+}
+
+/// A sequence, by the numbers of its values.
+#[derive(Clone, Copy)]
+pub enum FlatSequence {
+    Move(MoveValues),
+    Load(LoadValues),
+    Span(SpanValues),
+}
+
+fn differs(x: u32, ys: &[u32]) -> bool
+    ensures { result ≡ is_none_of x ys.now }
+{
+    match ys {
+        [] => true,
+        [y, rest @ ..] => x != *y && differs(x, rest),
+    }
+}
+
+fn move_differs(v: MoveValues) -> bool
+    ensures { result ≡ move_is_apart v.pointer v.distance v.result v.line v.slot v.exponent }
+{
+    differs(v.result, &[v.pointer, v.distance, v.line])
+        && differs(v.slot, &[v.pointer, v.distance, v.line, v.result])
+        && differs(v.exponent, &[v.pointer, v.distance, v.line, v.result, v.slot])
+}
+
+fn load_differs(v: LoadValues) -> bool
+    ensures { result ≡ is_apart (Load v.to v.at v.line v.slot v.exponent) }
+{
+    differs(v.to, &[v.line])
+        && differs(v.slot, &[v.to, v.line])
+        && differs(v.exponent, &[v.to, v.line, v.slot])
+}
+
+fn span_differs(v: SpanValues) -> bool
+    ensures { result ≡ is_apart (Span v.pointer v.count v.last v.line v.distance v.slot v.exponent) }
+{
+    move_differs(move_in(v))
+        && differs(v.count, &[v.distance, v.last, v.slot, v.exponent])
+        && differs(v.distance, &[v.pointer, v.line])
+}
+
+fn begins_with_move(alloc: Global, g: u8, v: MoveValues, steps: &[FlatStep]) -> Result<bool, AllocError>
+    requires least { 1 ≤ g }
+    requires most { g ≤ 24 }
+    ensures { IfOk result (λ b. b ≡ begins g (Move v.pointer v.distance v.result v.line v.slot v.exponent) (steps_of steps.now)) }
+{
+    if !move_differs(v) {
+        return Ok(false);
+    }
+    let sequence = move_steps(alloc, g, v)?;
+    Ok(is_start(&sequence, steps))
+}
+
+fn begins_with_load(alloc: Global, g: u8, v: LoadValues, steps: &[FlatStep]) -> Result<bool, AllocError>
+    requires least { 1 ≤ g }
+    requires most { g ≤ 24 }
+    ensures { IfOk result (λ b. b ≡ begins g (Load v.to v.at v.line v.slot v.exponent) (steps_of steps.now)) }
+{
+    if !load_differs(v) {
+        return Ok(false);
+    }
+    let sequence = load_steps(alloc, g, v)?;
+    Ok(is_start(&sequence, steps))
+}
+
+fn begins_with_span(alloc: Global, g: u8, v: SpanValues, steps: &[FlatStep]) -> Result<bool, AllocError>
+    requires least { 1 ≤ g }
+    requires most { g ≤ 24 }
+    ensures { IfOk result (λ b. b ≡ begins g (Span v.pointer v.count v.last v.line v.distance v.slot v.exponent) (steps_of steps.now)) }
+{
+    if !span_differs(v) {
+        return Ok(false);
+    }
+    let sequence = span_steps(alloc, g, v)?;
+    Ok(is_start(&sequence, steps))
+}
+
+/// The sequence with which the steps begin, if they do, for slots of 2^g bytes.
+pub fn sequence_at(alloc: Global, g: u8, steps: &[FlatStep]) -> Result<Option<FlatSequence>, AllocError>
+    requires least { 1 ≤ g }
+    requires most { g ≤ 24 }
+    ensures { IfOk result (λ r. sequence_in r ≡ sequence_at g (steps_of steps.now)) }
+{
+    let moving = move_values(steps);
+    if begins_with_move(alloc, g, moving, steps)? {
+        return Ok(Some(FlatSequence::Move(moving)));
+    }
+    let loading = load_values(steps);
+    if begins_with_load(alloc, g, loading, steps)? {
+        return Ok(Some(FlatSequence::Load(loading)));
+    }
+    let spanning = span_values(steps);
+    if begins_with_span(alloc, g, spanning, steps)? {
+        return Ok(Some(FlatSequence::Span(spanning)));
+    }
+    Ok(None)
 }
