@@ -114,42 +114,66 @@ fn no_of(s: &FlatStep) -> &[FlatStep]
 fn target_at(steps: &[FlatStep], n: usize) -> u32
     ensures { result ≡ target (step_at n (steps_of steps.now)) }
 {
-    if n < steps.len() { target_of(&steps[n]) } else { 0 }
+    if n < steps.len() {
+        target_of(&steps[n])
+    } else {
+        0
+    }
 }
 
 #[tactic(auto, using(crate::proofs::Emitted::at_list))]
 fn source_at(steps: &[FlatStep], n: usize) -> u32
     ensures { result ≡ source (step_at n (steps_of steps.now)) }
 {
-    if n < steps.len() { source_of(&steps[n]) } else { 0 }
+    if n < steps.len() {
+        source_of(&steps[n])
+    } else {
+        0
+    }
 }
 
 #[tactic(auto, using(crate::proofs::Emitted::at_list))]
 fn right_at(steps: &[FlatStep], n: usize) -> u32
     ensures { result ≡ right_side (step_at n (steps_of steps.now)) }
 {
-    if n < steps.len() { right_of(&steps[n]) } else { 0 }
+    if n < steps.len() {
+        right_of(&steps[n])
+    } else {
+        0
+    }
 }
 
 #[tactic(auto, using(crate::proofs::Emitted::at_list))]
 fn line_at(steps: &[FlatStep], n: usize) -> u32
     ensures { result ≡ line_value (step_at n (steps_of steps.now)) }
 {
-    if n < steps.len() { line_of(&steps[n]) } else { 0 }
+    if n < steps.len() {
+        line_of(&steps[n])
+    } else {
+        0
+    }
 }
 
 #[tactic(auto, using(crate::proofs::Emitted::at_list))]
 fn yes_at(steps: &[FlatStep], n: usize) -> &[FlatStep]
     ensures { steps_of result.now ≡ first_of (step_at n (steps_of steps.now)) }
 {
-    if n < steps.len() { yes_of(&steps[n]) } else { &[] }
+    if n < steps.len() {
+        yes_of(&steps[n])
+    } else {
+        &[]
+    }
 }
 
 #[tactic(auto, using(crate::proofs::Emitted::at_list))]
 fn no_at(steps: &[FlatStep], n: usize) -> &[FlatStep]
     ensures { steps_of result.now ≡ second_of (step_at n (steps_of steps.now)) }
 {
-    if n < steps.len() { no_of(&steps[n]) } else { &[] }
+    if n < steps.len() {
+        no_of(&steps[n])
+    } else {
+        &[]
+    }
 }
 
 /// The values of the only move sequence that these steps can begin with.
@@ -218,7 +242,10 @@ fn move_differs(v: MoveValues) -> bool
 {
     differs(v.result, &[v.pointer, v.distance, v.line])
         && differs(v.slot, &[v.pointer, v.distance, v.line, v.result])
-        && differs(v.exponent, &[v.pointer, v.distance, v.line, v.result, v.slot])
+        && differs(
+            v.exponent,
+            &[v.pointer, v.distance, v.line, v.result, v.slot],
+        )
 }
 
 fn load_differs(v: LoadValues) -> bool
@@ -237,7 +264,12 @@ fn span_differs(v: SpanValues) -> bool
         && differs(v.distance, &[v.pointer, v.line])
 }
 
-fn begins_with_move(alloc: Global, g: u8, v: MoveValues, steps: &[FlatStep]) -> Result<bool, AllocError>
+fn begins_with_move(
+    alloc: Global,
+    g: u8,
+    v: MoveValues,
+    steps: &[FlatStep],
+) -> Result<bool, AllocError>
     requires least { 1 ≤ g }
     requires most { g ≤ 24 }
     ensures { IfOk result (λ b. b ≡ begins g (Move v.pointer v.distance v.result v.line v.slot v.exponent) (steps_of steps.now)) }
@@ -249,7 +281,12 @@ fn begins_with_move(alloc: Global, g: u8, v: MoveValues, steps: &[FlatStep]) -> 
     Ok(is_start(&sequence, steps))
 }
 
-fn begins_with_load(alloc: Global, g: u8, v: LoadValues, steps: &[FlatStep]) -> Result<bool, AllocError>
+fn begins_with_load(
+    alloc: Global,
+    g: u8,
+    v: LoadValues,
+    steps: &[FlatStep],
+) -> Result<bool, AllocError>
     requires least { 1 ≤ g }
     requires most { g ≤ 24 }
     ensures { IfOk result (λ b. b ≡ begins g (Load v.to v.at v.line v.slot v.exponent) (steps_of steps.now)) }
@@ -261,7 +298,12 @@ fn begins_with_load(alloc: Global, g: u8, v: LoadValues, steps: &[FlatStep]) -> 
     Ok(is_start(&sequence, steps))
 }
 
-fn begins_with_span(alloc: Global, g: u8, v: SpanValues, steps: &[FlatStep]) -> Result<bool, AllocError>
+fn begins_with_span(
+    alloc: Global,
+    g: u8,
+    v: SpanValues,
+    steps: &[FlatStep],
+) -> Result<bool, AllocError>
     requires least { 1 ≤ g }
     requires most { g ≤ 24 }
     ensures { IfOk result (λ b. b ≡ begins g (Span v.pointer v.count v.last v.line v.distance v.slot v.exponent) (steps_of steps.now)) }
@@ -274,7 +316,11 @@ fn begins_with_span(alloc: Global, g: u8, v: SpanValues, steps: &[FlatStep]) -> 
 }
 
 /// The sequence with which the steps begin, if they do, for slots of 2^g bytes.
-pub fn sequence_at(alloc: Global, g: u8, steps: &[FlatStep]) -> Result<Option<FlatSequence>, AllocError>
+pub fn sequence_at(
+    alloc: Global,
+    g: u8,
+    steps: &[FlatStep],
+) -> Result<Option<FlatSequence>, AllocError>
     requires least { 1 ≤ g }
     requires most { g ≤ 24 }
     ensures { IfOk result (λ r. sequence_in r ≡ sequence_at g (steps_of steps.now)) }

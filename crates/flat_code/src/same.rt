@@ -83,19 +83,42 @@ fn is_same_step(a: &FlatStep, b: &FlatStep) -> bool
 {
     match a {
         FlatStep::Number { to, value } => match b {
-            FlatStep::Number { to: to2, value: value2 } => *to == *to2 && value.0 == value2.0,
+            FlatStep::Number {
+                to: to2,
+                value: value2,
+            } => *to == *to2 && value.0 == value2.0,
             _ => false,
         },
         FlatStep::Same { to, from } => match b {
-            FlatStep::Same { to: to2, from: from2 } => *to == *to2 && *from == *from2,
+            FlatStep::Same {
+                to: to2,
+                from: from2,
+            } => *to == *to2 && *from == *from2,
             _ => false,
         },
-        FlatStep::Arith { to, op, left, right } => match b {
-            FlatStep::Arith { to: to2, op: op2, left: left2, right: right2 } => *to == *to2 && op_number(*op) == op_number(*op2) && *left == *left2 && *right == *right2,
+        FlatStep::Arith {
+            to,
+            op,
+            left,
+            right,
+        } => match b {
+            FlatStep::Arith {
+                to: to2,
+                op: op2,
+                left: left2,
+                right: right2,
+            } => *to == *to2
+                && op_number(*op) == op_number(*op2)
+                && *left == *left2
+                && *right == *right2,
             _ => false,
         },
         FlatStep::If { cond, yes, no } => match b {
-            FlatStep::If { cond: cond2, yes: yes2, no: no2 } => *cond == *cond2 && are_both_same(yes, yes2, no, no2),
+            FlatStep::If {
+                cond: cond2,
+                yes: yes2,
+                no: no2,
+            } => *cond == *cond2 && are_both_same(yes, yes2, no, no2),
             _ => false,
         },
         FlatStep::Block { body } => match b {
@@ -115,7 +138,11 @@ fn is_same_step(a: &FlatStep, b: &FlatStep) -> bool
             _ => false,
         },
         FlatStep::Call { to, function, args } => match b {
-            FlatStep::Call { to: to2, function: function2, args: args2 } => *to == *to2 && *function == *function2 && are_same_numbers(args, args2),
+            FlatStep::Call {
+                to: to2,
+                function: function2,
+                args: args2,
+            } => *to == *to2 && *function == *function2 && are_same_numbers(args, args2),
             _ => false,
         },
         FlatStep::Return { from } => match b {
@@ -123,27 +150,47 @@ fn is_same_step(a: &FlatStep, b: &FlatStep) -> bool
             _ => false,
         },
         FlatStep::Slot { to, from } => match b {
-            FlatStep::Slot { to: to2, from: from2 } => *to == *to2 && *from == *from2,
+            FlatStep::Slot {
+                to: to2,
+                from: from2,
+            } => *to == *to2 && *from == *from2,
             _ => false,
         },
         FlatStep::Look { to, slot } => match b {
-            FlatStep::Look { to: to2, slot: slot2 } => *to == *to2 && *slot == *slot2,
+            FlatStep::Look {
+                to: to2,
+                slot: slot2,
+            } => *to == *to2 && *slot == *slot2,
             _ => false,
         },
         FlatStep::FrameAt { to, offset } => match b {
-            FlatStep::FrameAt { to: to2, offset: offset2 } => *to == *to2 && *offset == *offset2,
+            FlatStep::FrameAt {
+                to: to2,
+                offset: offset2,
+            } => *to == *to2 && *offset == *offset2,
             _ => false,
         },
         FlatStep::Load { to, at, width } => match b {
-            FlatStep::Load { to: to2, at: at2, width: width2 } => *to == *to2 && *at == *at2 && width_number(*width) == width_number(*width2),
+            FlatStep::Load {
+                to: to2,
+                at: at2,
+                width: width2,
+            } => *to == *to2 && *at == *at2 && width_number(*width) == width_number(*width2),
             _ => false,
         },
         FlatStep::Store { at, from, width } => match b {
-            FlatStep::Store { at: at2, from: from2, width: width2 } => *at == *at2 && *from == *from2 && width_number(*width) == width_number(*width2),
+            FlatStep::Store {
+                at: at2,
+                from: from2,
+                width: width2,
+            } => *at == *at2 && *from == *from2 && width_number(*width) == width_number(*width2),
             _ => false,
         },
         FlatStep::Checked { from, to } => match b {
-            FlatStep::Checked { from: from2, to: to2 } => *from == *from2 && *to == *to2,
+            FlatStep::Checked {
+                from: from2,
+                to: to2,
+            } => *from == *from2 && *to == *to2,
             _ => false,
         },
         FlatStep::LineMark { line } => match b {
@@ -151,11 +198,24 @@ fn is_same_step(a: &FlatStep, b: &FlatStep) -> bool
             _ => false,
         },
         FlatStep::Report { kind, line } => match b {
-            FlatStep::Report { kind: kind2, line: line2 } => kind_number(*kind) == kind_number(*kind2) && *line == *line2,
+            FlatStep::Report {
+                kind: kind2,
+                line: line2,
+            } => kind_number(*kind) == kind_number(*kind2) && *line == *line2,
             _ => false,
         },
-        FlatStep::Env { to, call, a: first, b: second } => match b {
-            FlatStep::Env { to: to2, call: call2, a: first2, b: second2 } => *to == *to2 && *call == *call2 && *first == *first2 && *second == *second2,
+        FlatStep::Env {
+            to,
+            call,
+            a: first,
+            b: second,
+        } => match b {
+            FlatStep::Env {
+                to: to2,
+                call: call2,
+                a: first2,
+                b: second2,
+            } => *to == *to2 && *call == *call2 && *first == *first2 && *second == *second2,
             _ => false,
         },
     }

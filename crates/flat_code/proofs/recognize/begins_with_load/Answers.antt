@@ -1,4 +1,4 @@
-use Rattle.std.proofs.Common.{◌≡◌, ap, sym, ◌∙◌}
+use Rattle.std.proofs.Common.{ap, sym, ◌∙◌}
 use Rattle.flat_code.specs.CodeViews.{steps_of}
 use Rattle.flat_code.specs.Recognized.{starts, Sequence}
 use Rattle.flat_code.proofs.Picked.{not_apart, if_apart}

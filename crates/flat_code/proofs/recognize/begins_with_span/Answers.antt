@@ -1,4 +1,4 @@
-use Rattle.std.proofs.Common.{◌≡◌, sym, ◌∙◌}
+use Rattle.std.proofs.Common.{sym, ◌∙◌}
 use Rattle.flat_code.specs.CodeViews.{steps_of}
 use Rattle.flat_code.specs.Recognized.{Sequence}
 use Rattle.flat_code.proofs.Picked.{not_apart}
