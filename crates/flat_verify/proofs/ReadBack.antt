@@ -9,6 +9,7 @@ use Rattle.flat_code.specs.Sequences.{report, load_sequence, span_sequence, owne
 use Rattle.flat_code.specs.Recognized.{number_of_op, number_of_width, number_of_kind, same_steps, starts, Sequence, sequence_steps, is_apart, step_at, target, source, line_value, first_of, second_of, load_of, span_of, if_begins, sequence_at, further}
 use Rattle.flat_verify.specs.Items.{Item, Items, item_steps, all_steps, item_or, item_of, items_from}
 use Rattle.flat_verify.specs.Breaks.{is_plain}
+use Rattle.flat_code.specs.Laws.{SequencesAreFound as Finds}
 use Rattle.flat_verify.specs.Laws.{IsPlainly, ArePlainly, PlainItemsAreRead}
 use Rattle.flat_verify.proofs.Recognized.{sequence_items}
 
@@ -28,7 +29,7 @@ dropped zero a = a
 dropped (suc n) FSteps.none = FSteps.none
 dropped (suc n) (FSteps.more s a) = dropped n a
 
-module _ (g : ℕ) where
+module _ (finds : Finds) (g : ℕ) where
   -- no items begin as the list of a load sequence does
   not_slot : (a : Items) → ArePlainly a → (s t c v : ℕ) (X : FSteps) → same_steps (FSteps.more (FStep.Slot s t) (FSteps.more (FStep.Number c v) X)) (all_steps g a) ≡ false
   not_slot Items.end h s t c v X = refl
@@ -231,7 +232,7 @@ module _ (g : ℕ) where
   mutual
     read_item : (i : Item) (r : Items) → IsPlainly i → ArePlainly r → items_from g 0 (item_steps g i +++ all_steps g r) ≡ Items.next i (items_from g 0 (all_steps g r))
     read_item (Item.Plain s) r h hr = ap (λ o. Items.next (item_or o (item_of g s)) (items_from g (further g o) (all_steps g r))) (none_at s r h.0 hr) ∙ ap (λ i. Items.next i (items_from g 0 (all_steps g r))) (plain_item s h.0)
-    read_item (Item.Checks q) r h hr = sequence_items g q (all_steps g r) h
+    read_item (Item.Checks q) r h hr = sequence_items finds g q (all_steps g r) h
     read_item (Item.If c a b) r h hr = ap (λ x. Items.next (Item.If c x (items_from g 0 (all_steps g b))) (items_from g 0 (all_steps g r))) (read_back a h.0) ∙ ap (λ x. Items.next (Item.If c a x) (items_from g 0 (all_steps g r))) (read_back b h.1)
     read_item (Item.Block a) r h hr = ap (λ x. Items.next (Item.Block x) (items_from g 0 (all_steps g r))) (read_back a h)
     read_item (Item.Loop a) r h hr = ap (λ x. Items.next (Item.Loop x) (items_from g 0 (all_steps g r))) (read_back a h)
@@ -241,5 +242,5 @@ module _ (g : ℕ) where
     read_back Items.end h = refl
     read_back (Items.next i r) h = read_item i r h.0 h.1 ∙ ap (λ x. Items.next i x) (read_back r h.1)
 
-pub plain_items_are_read : PlainItemsAreRead
-plain_items_are_read g is h = read_back g is h
+pub plain_items_are_read : Finds → PlainItemsAreRead
+plain_items_are_read finds g is h = read_back finds g is h

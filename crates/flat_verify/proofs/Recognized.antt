@@ -1,8 +1,7 @@
 -- The items of steps are these steps, and a sequence is found where it stands.
-use Rattle.std.proofs.Common.{◌≡◌, ℕ, zero, suc, ◌-◌, Option, Some, None, Bool, true, false, List, [], ◌∷◌, cond, refl, sym, ap, ◌∙◌, ⊎_elim, true≢false, arith}
+use Rattle.std.proofs.Common.{◌≡◌, ℕ, zero, suc, ◌-◌, Option, Some, None, Bool, true, false, List, [], ◌∷◌, cond, refl, sym, ap, ◌∙◌, true≢false, arith}
 use Rattle.std.specs.Prelude.{◌==◌, ◌&&◌}
 use Rattle.std.proofs.lemmas.Bool.{eqb-true}
-use Rattle.std.proofs.lemmas.Bool.Decides.{eqb_tells}
 use Rattle.bb_words.specs.declared.kinds.ReportKind.{ReportKind}
 use Rattle.bb_words.specs.declared.kinds.ReportKind.TheVariants as report
 use Rattle.bb_words.specs.declared.steps.ArithOp.{ArithOp}
@@ -12,7 +11,8 @@ use Rattle.bb_words.specs.declared.steps.Width.TheVariants as width
 use Rattle.flat_code.specs.Code.{FStep, FSteps, ◌+++◌}
 use Rattle.flat_code.specs.Recognized.{number_of_op, number_of_width, number_of_kind, same_numbers, same_step, same_steps, starts, Sequence, sequence_steps, is_apart, move_of, load_of, span_of, if_begins, sequence_at, count, further}
 use Rattle.flat_verify.specs.Items.{Item, Items, item_steps, all_steps, item_or, item_of, items_from}
-use Rattle.flat_verify.specs.Laws.{ItemsAreSteps, SequencesAreFound}
+use Rattle.flat_code.specs.Laws.{SequencesAreFound as Finds}
+use Rattle.flat_verify.specs.Laws.{ItemsAreSteps, SequencesAreItems}
 
 both : (a b : Bool) → (a && b) ≡ true → (a ≡ true) × (b ≡ true)
 both true b h = (refl, h)
@@ -220,65 +220,9 @@ module _ (g : ℕ) where
 pub items_are_steps : ItemsAreSteps
 items_are_steps g a = items_are g 0 a
 
--- ---- Sequences are found
+-- ---- Sequences are items
 
-eq_self : (a : ℕ) → (a == a) ≡ true
-eq_self a = ⊎_elim (λ h. h.0) (λ h. absurd (h.1 refl)) (eqb_tells a a)
-
-and_both : (a b : Bool) → a ≡ true → b ≡ true → (a && b) ≡ true
-and_both true b ha hb = hb
-and_both false b ha hb = ha
-
-two_self : (a b : ℕ) → ((a == a) && (b == b)) ≡ true
-two_self a b = and_both (a == a) (b == b) (eq_self a) (eq_self b)
-
-numbers_self : (xs : List ℕ) → same_numbers xs xs ≡ true
-numbers_self [] = refl
-numbers_self (x ∷ xs) = and_both (x == x) (same_numbers xs xs) (eq_self x) (numbers_self xs)
-
-mutual
-  step_self : (s : FStep) → same_step s s ≡ true
-  step_self (FStep.Number a x) = two_self a x
-  step_self (FStep.Same a x) = two_self a x
-  step_self (FStep.Arith a f x y) = and_both (a == a) ((number_of_op f == number_of_op f) && ((x == x) && (y == y))) (eq_self a) (and_both (number_of_op f == number_of_op f) ((x == x) && (y == y)) (eq_self (number_of_op f)) (two_self x y))
-  step_self (FStep.If a x y) = and_both (a == a) (same_steps x x && same_steps y y) (eq_self a) (and_both (same_steps x x) (same_steps y y) (steps_self x) (steps_self y))
-  step_self (FStep.Block a) = steps_self a
-  step_self (FStep.Loop a) = steps_self a
-  step_self (FStep.Inner a) = steps_self a
-  step_self (FStep.Exit a) = eq_self a
-  step_self (FStep.Call a f xs) = and_both (a == a) ((f == f) && same_numbers xs xs) (eq_self a) (and_both (f == f) (same_numbers xs xs) (eq_self f) (numbers_self xs))
-  step_self (FStep.Return a) = eq_self a
-  step_self (FStep.Slot a x) = two_self a x
-  step_self (FStep.Look a x) = two_self a x
-  step_self (FStep.FrameAt a x) = two_self a x
-  step_self (FStep.Load a x w) = and_both (a == a) ((x == x) && (number_of_width w == number_of_width w)) (eq_self a) (two_self x (number_of_width w))
-  step_self (FStep.Store a x w) = and_both (a == a) ((x == x) && (number_of_width w == number_of_width w)) (eq_self a) (two_self x (number_of_width w))
-  step_self (FStep.Checked a x) = two_self a x
-  step_self (FStep.LineMark a) = eq_self a
-  step_self (FStep.Report k a) = two_self (number_of_kind k) a
-  step_self (FStep.Env a n x y) = and_both (a == a) ((n == n) && ((x == x) && (y == y))) (eq_self a) (and_both (n == n) ((x == x) && (y == y)) (eq_self n) (two_self x y))
-
-  steps_self : (a : FSteps) → same_steps a a ≡ true
-  steps_self FSteps.none = refl
-  steps_self (FSteps.more s a) = and_both (same_step s s) (same_steps a a) (step_self s) (steps_self a)
-
-starts_self : (a b : FSteps) → starts a (a +++ b) ≡ true
-starts_self FSteps.none b = refl
-starts_self (FSteps.more s a) b = and_both (same_step s s) (starts a (a +++ b)) (step_self s) (starts_self a b)
-
-module _ (g : ℕ) where
-  at_front : (q : Sequence) (b : FSteps) → is_apart q ≡ true → (other : Option Sequence) → if_begins g q (sequence_steps g q +++ b) other ≡ Some q
-  at_front q b apart other = ap (λ t. cond t (Some q) other) (and_both (starts (sequence_steps g q) (sequence_steps g q +++ b)) (is_apart q) (starts_self (sequence_steps g q) b) apart)
-
-  recognized : (q : Sequence) (b : FSteps) → is_apart q ≡ true → sequence_at g (sequence_steps g q +++ b) ≡ Some q
-  recognized (Sequence.Move p d q line s e) b apart =
-      let a = sequence_steps g (Sequence.Move p d q line s e) +++ b in
-      at_front (Sequence.Move p d q line s e) b apart (if_begins g (load_of a) a (if_begins g (span_of a) a None))
-  recognized (Sequence.Load w at line s e) b apart =
-      let a = sequence_steps g (Sequence.Load w at line s e) +++ b in
-      at_front (Sequence.Load w at line s e) b apart (if_begins g (span_of a) a None)
-  recognized (Sequence.Span p n q line d s e) b apart = at_front (Sequence.Span p n q line d s e) b apart None
-
+module _ (finds : Finds) (g : ℕ) where
   skipped : (a b : FSteps) → items_from g (count a) (a +++ b) ≡ items_from g 0 b
   skipped FSteps.none b = refl
   skipped (FSteps.more s a) b = skipped a b
@@ -299,13 +243,13 @@ module _ (g : ℕ) where
   pub sequence_items : (q : Sequence) (b : FSteps) → is_apart q ≡ true → items_from g 0 (sequence_steps g q +++ b) ≡ Items.next (Item.Checks q) (items_from g 0 b)
   sequence_items (Sequence.Move p d q line s e) b apart =
       let x = Sequence.Move p d q line s e in
-      found x (FStep.Slot s p) (tail (sequence_steps g x)) b (Item.Plain (FStep.Slot s p)) refl (sequence_at g (sequence_steps g x +++ b)) (recognized x b apart)
+      found x (FStep.Slot s p) (tail (sequence_steps g x)) b (Item.Plain (FStep.Slot s p)) refl (sequence_at g (sequence_steps g x +++ b)) (finds g x b apart)
   sequence_items (Sequence.Load w at line s e) b apart =
       let x = Sequence.Load w at line s e in
-      found x (FStep.Load w at width.Pointer) (tail (sequence_steps g x)) b (Item.Plain (FStep.Load w at width.Pointer)) refl (sequence_at g (sequence_steps g x +++ b)) (recognized x b apart)
+      found x (FStep.Load w at width.Pointer) (tail (sequence_steps g x)) b (Item.Plain (FStep.Load w at width.Pointer)) refl (sequence_at g (sequence_steps g x +++ b)) (finds g x b apart)
   sequence_items (Sequence.Span p n q line d s e) b apart =
       let x = Sequence.Span p n q line d s e in
-      found x (FStep.Number d 0x0100_0001) (tail (sequence_steps g x)) b (Item.Plain (FStep.Number d 0x0100_0001)) refl (sequence_at g (sequence_steps g x +++ b)) (recognized x b apart)
+      found x (FStep.Number d 0x0100_0001) (tail (sequence_steps g x)) b (Item.Plain (FStep.Number d 0x0100_0001)) refl (sequence_at g (sequence_steps g x +++ b)) (finds g x b apart)
 
-pub sequences_are_found : SequencesAreFound
-sequences_are_found g q rest apart = sequence_items g q rest apart
+pub sequences_are_items : Finds → SequencesAreItems
+sequences_are_items finds g q rest apart = sequence_items finds g q rest apart

@@ -17,9 +17,9 @@ use Rattle.flat_verify.specs.Derivations.{Signs, GoodProgram}
 abbrev pub ItemsAreSteps : Type 0
 ItemsAreSteps = (g : ℕ) (steps : FSteps) → all_steps g (items_of g steps) ≡ steps
 
--- a sequence whose values are apart is found where it stands
-abbrev pub SequencesAreFound : Type 0
-SequencesAreFound = (g : ℕ) (q : Sequence) (rest : FSteps) → is_apart q ≡ true → items_of g (sequence_steps g q +++ rest) ≡ Items.next (Item.Checks q) (items_of g rest)
+-- a sequence whose values are apart is an item where it stands
+abbrev pub SequencesAreItems : Type 0
+SequencesAreItems = (g : ℕ) (q : Sequence) (rest : FSteps) → is_apart q ≡ true → items_of g (sequence_steps g q +++ rest) ≡ Items.next (Item.Checks q) (items_of g rest)
 
 -- Items whose plain steps begin no sequence: the values of sequences are apart, and no plain step is one that stands in
 -- sequences alone, or reports bounds.

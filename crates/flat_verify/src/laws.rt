@@ -1,5 +1,5 @@
 //! What holds of the discipline, for what stands on it.
-ghost use Rattle.flat_verify.specs.Laws.{ItemsAreSteps, SequencesAreFound, PlainItemsAreRead, ClosedTablesKnow, DerivationsAreAccepted, FirstIsOne, ExactTablesTell};
+ghost use Rattle.flat_verify.specs.Laws.{ItemsAreSteps, SequencesAreItems, PlainItemsAreRead, ClosedTablesKnow, DerivationsAreAccepted, FirstIsOne, ExactTablesTell};
 ghost use Rattle.flat_verify.specs.Examples.{ExamplesBreak};
 ghost use Rattle.flat_verify.specs.Safe.{DisciplinedIsSafe};
 
@@ -8,15 +8,19 @@ pub fn items_are_steps()
     ensures { ItemsAreSteps }
 {}
 
-/// A sequence whose values are apart is found where it stands.
-pub fn sequences_are_found()
-    ensures { SequencesAreFound }
-{}
+/// A sequence whose values are apart is an item where it stands.
+pub fn sequences_are_items()
+    ensures { SequencesAreItems }
+{
+    flat_code::laws::sequences_are_found();
+}
 
 /// Items whose plain steps begin no sequence are read back from their steps.
 pub fn plain_items_are_read()
     ensures { PlainItemsAreRead }
-{}
+{
+    flat_code::laws::sequences_are_found();
+}
 
 /// A closed table knows no fact that a chain shows to be lost.
 pub fn closed_tables_know()
