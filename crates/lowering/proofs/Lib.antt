@@ -1,0 +1,13 @@
+pub mod Sim
+pub mod Meets
+pub mod Fits
+pub mod Operators
+pub mod Steps
+pub mod Expressions
+pub mod Statements
+pub mod Calls
+pub mod FromTyped
+pub mod Counted
+pub mod Emitted
+pub mod Light
+pub mod FortyTwo

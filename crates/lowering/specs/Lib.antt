@@ -1,0 +1,5 @@
+pub mod Lower
+pub mod Built
+pub mod Keeps
+pub mod Room
+pub mod Laws
