@@ -2,3 +2,4 @@ pub mod Words
 pub mod Memory
 pub mod Trail
 pub mod Worlds
+pub mod Laws

@@ -1,0 +1,115 @@
+-- What each operation on objects is on words and memory, for slots of 2 ^ g bytes.
+use Rattle.std.specs.Prelude.{◌≡◌, ◌⊎◌, ℕ, ◌+◌, ◌-◌, ◌^◌, ◌<◌, ◌≤◌, true, List, [], ◌∷◌, ◌++◌, length, Some, None, slice_get, ℤ, pos}
+use Rattle.bb_words.specs.Answers.{Goes, Ends}
+use Rattle.bb_words.specs.Numbers.{signed}
+use Rattle.bb_words.specs.Steps.{size_of_width}
+use Rattle.bb_words.specs.declared.kinds.ReportKind.TheVariants.{Bounds}
+use Rattle.bb_words.specs.declared.steps.Width.{Width}
+use Rattle.marked_ptr.specs.Marked.{owner_slot, moved, inside, outside}
+use Rattle.marked_ptr.specs.Laws.{IsInReach}
+use Rattle.marked_ptr.specs.declared.answer.MoveAnswer.{MoveAnswer}
+use Rattle.marked_ptr.specs.declared.answer.MoveAnswer.TheVariants.{Report}
+use Rattle.size_table.specs.declared.memory_map.TheConstants.{HEAP_START}
+use Rattle.size_table.specs.Table as table
+use Rattle.source_meaning.specs.declared.values.Pointer.{Pointer}
+use Rattle.source_meaning.specs.declared.values.Pointer.TheVariants.{To}
+use Rattle.source_meaning.specs.declared.values.Value.{Value}
+use Rattle.source_meaning.specs.declared.values.Cell.{Cell}
+use Rattle.source_meaning.specs.declared.values.Ending.TheVariants.{Exited, Reported, Trapped, Outside, Cut}
+use Rattle.source_meaning.specs.Objects.{Object, ended_in}
+use Rattle.source_meaning.specs.Worlds.{World, Does, Mark, Moved, noted, live_blocks}
+use Rattle.source_meaning.specs.Moves.{move}
+use Rattle.source_meaning.specs.Accesses.{access}
+use Rattle.flat_code.specs.World.{Words}
+use Rattle.flat_code.specs.World.{Ending as FlatEnding}
+use Rattle.flat_code.specs.Run.{refusal}
+use Rattle.injection.specs.Words.{word_of, word_of_value, byte_of}
+use Rattle.injection.specs.Memory.{IsLive, AreLaidOut, IsPointer, IsValue, IsCell, SameValues}
+use Rattle.injection.specs.Trail.{SafeSites, image_trail, TrailIsNamed}
+use Rattle.injection.specs.Worlds.{Accounted, Stays, Since}
+
+-- ---- Accounts
+
+-- These relations compose over a run.
+pub record AccountsCompose : Type 0 where
+  pub accounted_same : (os : List Object) → Accounted os os
+  pub accounted_then : (a b c : List Object) → Accounted a b → Accounted b c → Accounted a c
+  pub stays_same : (os : List Object) → Stays os os
+  pub stays_then : (a b c : List Object) → Stays a b → Stays b c → Stays a c
+  pub since_same : (os : List Object) → Since os os
+  pub since_then : (a b c : List Object) → Since a b → Since b c → Since a c
+
+-- What was a pointer, a value, a cell or a trail still is one, and has the words and bytes that it had.
+pub record AccountsKeep : Type 0 where
+  pub pointers : (g : ℕ) (a b : List Object) (q : Pointer) → Accounted a b → IsPointer g a q → IsPointer g b q × (word_of b q ≡ word_of a q)
+  pub values : (g : ℕ) (a b : List Object) (v : Value) → Accounted a b → IsValue g a v → IsValue g b v × (word_of_value b v ≡ word_of_value a v)
+  pub cells : (g : ℕ) (a b : List Object) (c : Cell) → Accounted a b → IsCell g a c → IsCell g b c × (byte_of b c ≡ byte_of a c)
+  pub words : (g n : ℕ) (a b : List Object) (values : ℕ → Value) (words : Words) → Accounted a b → SameValues g n a values words → SameValues g n b values words
+  pub trails : (g : ℕ) (safe : SafeSites) (a b : List Object) (marks : List Mark) → Accounted a b → TrailIsNamed g a marks → TrailIsNamed g b marks × (image_trail safe b marks ≡ image_trail safe a marks)
+
+-- Objects that are made come after the others; one that ends leaves its account.
+pub record AccountsGrow : Type 0 where
+  pub made : (os more : List Object) → Accounted os (os ++ more) × Stays os (os ++ more)
+  pub made_since : (os : List Object) (o : Object) → HEAP_START ≤ o.base → Since os (os ++ o ∷ [])
+  pub ended : (os : List Object) (k : ℕ) → Accounted os (ended_in os k (slice_get os k)) × Since os (ended_in os k (slice_get os k))
+  pub ended_stays : (os : List Object) (k : ℕ) (o : Object) → slice_get os k ≡ Some o → HEAP_START ≤ o.base → Stays os (ended_in os k (Some o))
+
+-- ---- Owners and moves
+
+-- a slot of memory owns the word, and its byte in the size table is 0 or an exponent
+pub record IsOwned (g : ℕ) (os : List Object) (word : ℕ) : Type 0 where
+  pub slot : ℕ
+  pub is : owner_slot g word ≡ Some slot
+  pub small : slot < 2 ^ (25 - g)
+  pub byte : table.byte_of g (live_blocks os) slot ≤ 24
+
+-- a pointer has an owner, be its object live or not
+abbrev pub PointersAreOwned : Type 0
+PointersAreOwned = (g : ℕ) (os : List Object) (q : Pointer) → AreLaidOut g os → IsPointer g os q → IsOwned g os (word_of os q)
+
+-- the byte at the owner of a pointer to a live object is the object's exponent
+abbrev pub OwnersHaveExponents : Type 0
+OwnersHaveExponents = (g : ℕ) (os : List Object) (k : ℕ) (o : Object) (z : ℤ) (slot : ℕ) → AreLaidOut g os → IsLive os k o → IsInReach g o.exponent z → owner_slot g (word_of os (To k z)) ≡ Some slot → table.byte_of g (live_blocks os) slot ≡ o.exponent
+
+-- the move comes to a pointer, and that of words to its word
+pub record Arrives (g site : ℕ) (w : World) (from to : Pointer) (x : World) (answer : MoveAnswer) : Type 0 where
+  pub world : x ≡ noted (Moved site from to) w
+  pub formed : IsPointer g w.objects to
+  pub word : (answer ≡ inside (word_of w.objects to)) ⊎ (answer ≡ outside (word_of w.objects to))
+
+-- a move over objects comes to a pointer, or is reported, just where that of words does; or it leaves its objects
+abbrev pub MovesAlike : (g site line : ℕ) → World → Pointer → MoveAnswer → Does Pointer → Type 0
+MovesAlike g site line w q answer (Goes to x) = Arrives g site w q to x answer
+MovesAlike g site line w q answer (Ends (Reported kind at) x) = (x ≡ w) × (kind ≡ Bounds) × (at ≡ line) × (answer ≡ Report)
+MovesAlike g site line w q answer (Ends (Outside cause) x) = x ≡ w
+MovesAlike g site line w q answer (Ends (Exited n) x) = ⊥
+MovesAlike g site line w q answer (Ends (Trapped kind) x) = ⊥
+MovesAlike g site line w q answer (Ends Cut x) = ⊥
+
+abbrev pub MovesAreMoved : Type 0
+MovesAreMoved =
+    (g site line d slot : ℕ) (q : Pointer) (w : World) → AreLaidOut g w.objects → IsPointer g w.objects q → d < 2 ^ 32 → owner_slot g (word_of w.objects q) ≡ Some slot
+    → MovesAlike g site line w q (moved g (word_of w.objects q) d (table.byte_of g (live_blocks w.objects) slot)) (move g site line (signed d) q w)
+
+-- ---- Accesses
+
+-- the object and the place that an access of words finds
+pub record Found (os : List Object) (size at k i : ℕ) : Type 0 where
+  pub object : Object
+  pub live : IsLive os k object
+  pub within : i + size ≤ object.length
+  pub is : at ≡ object.base + i
+  pub free : refusal at size ≡ None
+
+-- an access of objects finds a place, or is trapped, just where that of words does; or it leaves its objects
+abbrev pub AccessesAlike : World → Pointer → (size at : ℕ) → Does (ℕ × ℕ) → Type 0
+AccessesAlike w q size at (Goes place x) = (x ≡ w) × (q ≡ To place.0 (pos place.1)) × Found w.objects size at place.0 place.1
+AccessesAlike w q size at (Ends (Trapped kind) x) = (x ≡ w) × (refusal at size ≡ Some (FlatEnding.Trapped kind))
+AccessesAlike w q size at (Ends (Outside cause) x) = x ≡ w
+AccessesAlike w q size at (Ends (Exited n) x) = ⊥
+AccessesAlike w q size at (Ends (Reported kind line) x) = ⊥
+AccessesAlike w q size at (Ends Cut x) = ⊥
+
+-- A slot has at least four bytes, so that a place is a multiple of a size just where its address is.
+abbrev pub AccessesAreFound : Type 0
+AccessesAreFound = (g : ℕ) (width : Width) (q : Pointer) (w : World) → 2 ≤ g → AreLaidOut g w.objects → AccessesAlike w q (size_of_width width) (word_of w.objects q) (access (size_of_width width) q w)
