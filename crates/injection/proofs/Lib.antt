@@ -6,3 +6,6 @@ pub mod Blocks
 pub mod Objects
 pub mod Owners
 pub mod Access
+pub mod Copies
+pub mod Values
+pub mod Compare

@@ -1,11 +1,13 @@
 -- What each operation on objects is on words and memory, for slots of 2 ^ g bytes.
-use Rattle.std.specs.Prelude.{◌≡◌, ◌⊎◌, ℕ, ◌+◌, ◌-◌, ◌^◌, ◌<◌, ◌≤◌, true, List, [], ◌∷◌, ◌++◌, length, Some, None, slice_get, ℤ, pos}
+use Rattle.std.specs.Prelude.{◌≡◌, ◌==◌, ◌⊎◌, ℕ, ◌+◌, ◌-◌, ◌^◌, ◌<◌, ◌≤◌, nat_lt, nat_le, Bool, true, not, List, [], ◌∷◌, ◌++◌, length, Some, None, slice_get, ℤ, pos}
 use Rattle.bb_words.specs.Answers.{Goes, Ends}
 use Rattle.bb_words.specs.Numbers.{signed}
-use Rattle.bb_words.specs.Steps.{size_of_width}
+use Rattle.bb_words.specs.Steps.{flag, size_of_width}
 use Rattle.bb_words.specs.declared.kinds.ReportKind.TheVariants.{Bounds}
 use Rattle.bb_words.specs.declared.steps.Width.{Width}
-use Rattle.marked_ptr.specs.Marked.{owner_slot, moved, inside, outside}
+use Rattle.bb_words.specs.declared.steps.OrderOp.{OrderOp}
+use Rattle.bb_words.specs.declared.steps.OrderOp.TheVariants as order
+use Rattle.marked_ptr.specs.Marked.{owner_slot, unmarked, difference, moved, inside, outside}
 use Rattle.marked_ptr.specs.Laws.{IsInReach}
 use Rattle.marked_ptr.specs.declared.answer.MoveAnswer.{MoveAnswer}
 use Rattle.marked_ptr.specs.declared.answer.MoveAnswer.TheVariants.{Report}
@@ -14,19 +16,24 @@ use Rattle.size_table.specs.Table as table
 use Rattle.source_meaning.specs.declared.values.Pointer.{Pointer}
 use Rattle.source_meaning.specs.declared.values.Pointer.TheVariants.{To}
 use Rattle.source_meaning.specs.declared.values.Value.{Value}
+use Rattle.source_meaning.specs.declared.values.Value.TheVariants.{Num, Ptr}
 use Rattle.source_meaning.specs.declared.values.Cell.{Cell}
 use Rattle.source_meaning.specs.declared.values.Ending.TheVariants.{Exited, Reported, Trapped, Outside, Cut}
-use Rattle.source_meaning.specs.Objects.{Object, ended_in}
+use Rattle.source_meaning.specs.Objects.{Object, Cells, cleared, copied, all_set, ended_in}
 use Rattle.source_meaning.specs.Worlds.{World, Does, Mark, Moved, noted, live_blocks}
 use Rattle.source_meaning.specs.Moves.{move}
-use Rattle.source_meaning.specs.Accesses.{access}
-use Rattle.flat_code.specs.World.{Words}
+use Rattle.source_meaning.specs.Accesses.{access, load, store}
+use Rattle.source_meaning.specs.Comparisons.{same, ordered, elements_between, truth}
+use Rattle.source_meaning.specs.Copies.{initialize, with_bytes as counted}
+use Rattle.flat_code.specs.World.{Memory, Words, read, with_bytes, bytes_of, zeroed}
 use Rattle.flat_code.specs.World.{Ending as FlatEnding}
 use Rattle.flat_code.specs.Run.{refusal}
+use Rattle.flat_code.specs.Sequences.{may_be_loaded}
 use Rattle.injection.specs.Words.{word_of, word_of_value, byte_of}
-use Rattle.injection.specs.Memory.{IsLive, AreLaidOut, IsPointer, IsValue, IsCell, SameValues}
+use Rattle.injection.specs.Memory.{IsLive, AreLaidOut, IsPointer, IsValue, IsCell, Injects, SameValues}
 use Rattle.injection.specs.Trail.{SafeSites, image_trail, TrailIsNamed}
 use Rattle.injection.specs.Worlds.{Accounted, Stays, Since}
+use Rattle.injection.specs.Copies.{copied_bytes, set_bytes}
 
 -- ---- Accounts
 
@@ -113,3 +120,115 @@ AccessesAlike w q size at (Ends Cut x) = ⊥
 -- A slot has at least four bytes, so that a place is a multiple of a size just where its address is.
 abbrev pub AccessesAreFound : Type 0
 AccessesAreFound = (g : ℕ) (width : Width) (q : Pointer) (w : World) → 2 ≤ g → AreLaidOut g w.objects → AccessesAlike w q (size_of_width width) (word_of w.objects q) (access (size_of_width width) q w)
+
+-- ---- Reads and writes
+
+-- code that reads the word of a value may go on with it: a pointer is null, or its owner's block lives
+abbrev pub MayBeLoaded : (g : ℕ) → List Object → Value → Type 0
+MayBeLoaded g os (Num n) = Unit {0}
+MayBeLoaded g os (Ptr q) = may_be_loaded g (live_blocks os) (word_of os q) ≡ true
+
+-- a value is read, and its word from memory
+pub record Loads (g : ℕ) (width : Width) (memory : Memory) (w : World) (at : ℕ) (v : Value) : Type 0 where
+  pub place : ℕ × ℕ
+  pub found : Found w.objects (size_of_width width) at place.0 place.1
+  pub formed : IsValue g w.objects v
+  pub word : word_of_value w.objects v ≡ read width memory at
+  pub passes : MayBeLoaded g w.objects v
+
+abbrev pub LoadsAlike : (g : ℕ) → Width → Memory → World → (at : ℕ) → Does Value → Type 0
+LoadsAlike g width memory w at (Goes v x) = (x ≡ w) × Loads g width memory w at v
+LoadsAlike g width memory w at (Ends (Trapped kind) x) = (x ≡ w) × (refusal at (size_of_width width) ≡ Some (FlatEnding.Trapped kind))
+LoadsAlike g width memory w at (Ends (Outside cause) x) = x ≡ w
+LoadsAlike g width memory w at (Ends (Exited n) x) = ⊥
+LoadsAlike g width memory w at (Ends (Reported kind line) x) = ⊥
+LoadsAlike g width memory w at (Ends Cut x) = ⊥
+
+abbrev pub LoadsAreReads : Type 0
+LoadsAreReads = (g : ℕ) (width : Width) (q : Pointer) (memory : Memory) (w : World) → 2 ≤ g → Injects g w.objects w.cells memory → LoadsAlike g width memory w (word_of w.objects q) (load width q w)
+
+-- a value is written, and its word to memory
+pub record Stores (g : ℕ) (width : Width) (memory : Memory) (w : World) (at word : ℕ) (x : World) : Type 0 where
+  pub place : ℕ × ℕ
+  pub found : Found w.objects (size_of_width width) at place.0 place.1
+  pub world : x ≡ record w { cells = x.cells }
+  pub keeps : Injects g w.objects x.cells (with_bytes memory at (bytes_of (size_of_width width) word))
+
+abbrev pub StoresAlike : (g : ℕ) → Width → Memory → World → (at word : ℕ) → Does Unit → Type 0
+StoresAlike g width memory w at word (Goes done x) = Stores g width memory w at word x
+StoresAlike g width memory w at word (Ends (Trapped kind) x) = (x ≡ w) × (refusal at (size_of_width width) ≡ Some (FlatEnding.Trapped kind))
+StoresAlike g width memory w at word (Ends (Outside cause) x) = x ≡ w
+StoresAlike g width memory w at word (Ends (Exited n) x) = ⊥
+StoresAlike g width memory w at word (Ends (Reported kind line) x) = ⊥
+StoresAlike g width memory w at word (Ends Cut x) = ⊥
+
+abbrev pub StoresAreWrites : Type 0
+StoresAreWrites =
+    (g : ℕ) (width : Width) (q : Pointer) (v : Value) (memory : Memory) (w : World) → 2 ≤ g → Injects g w.objects w.cells memory → IsValue g w.objects v
+    → StoresAlike g width memory w (word_of w.objects q) (word_of_value w.objects v) (store width q v w)
+
+-- a part of an object gets a value
+abbrev pub InitializesAlike : (g : ℕ) → Width → Memory → World → (at word : ℕ) → Does Unit → Type 0
+InitializesAlike g width memory w at word (Goes done x) =
+    (x ≡ counted (size_of_width width) x.cells w) × Injects g w.objects x.cells (with_bytes memory at (bytes_of (size_of_width width) word))
+InitializesAlike g width memory w at word (Ends (Outside cause) x) = x ≡ w
+InitializesAlike g width memory w at word (Ends (Trapped kind) x) = ⊥
+InitializesAlike g width memory w at word (Ends (Exited n) x) = ⊥
+InitializesAlike g width memory w at word (Ends (Reported kind line) x) = ⊥
+InitializesAlike g width memory w at word (Ends Cut x) = ⊥
+
+abbrev pub InitializersAreWrites : Type 0
+InitializersAreWrites =
+    (g k i : ℕ) (o : Object) (width : Width) (v : Value) (memory : Memory) (w : World) → IsLive w.objects k o → i + size_of_width width ≤ o.length
+    → Injects g w.objects w.cells memory → IsValue g w.objects v
+    → InitializesAlike g width memory w (o.base + i) (word_of_value w.objects v) (initialize k i width v w)
+
+-- an object is cleared, and the bytes of its block from its start on, as far as it reaches or further
+abbrev pub ClearsAreZeros : Type 0
+ClearsAreZeros =
+    (g k n : ℕ) (o : Object) (os : List Object) (cs : Cells) (memory : Memory) → IsLive os k o → o.length ≤ n → n ≤ 2 ^ o.exponent
+    → Injects g os cs memory → Injects g os (cleared cs k) (zeroed memory o.base n)
+
+-- ---- Copies
+
+-- cells are copied, parts of pointers and places that overlap among them, as bytes are
+abbrev pub CopiesAreBytes : Type 0
+CopiesAreBytes =
+    (g n k i j t : ℕ) (o p : Object) (os : List Object) (cs : Cells) (memory : Memory) → IsLive os k o → IsLive os j p → i + n ≤ o.length → t + n ≤ p.length
+    → Injects g os cs memory → Injects g os (copied n cs k i j t) (copied_bytes n (o.base + i) (p.base + t) memory)
+
+abbrev pub SetsAreBytes : Type 0
+SetsAreBytes =
+    (g n k i byte : ℕ) (o : Object) (os : List Object) (cs : Cells) (memory : Memory) → IsLive os k o → i + n ≤ o.length → byte < 256
+    → Injects g os cs memory → Injects g os (all_set n cs k i byte) (set_bytes n (o.base + i) byte memory)
+
+-- ---- Comparisons
+
+-- an operation gives this, and changes nothing; or it leaves its objects
+abbrev pub GivesAlike : {A : Type 0} → World → A → Does A → Type 0
+GivesAlike w a (Goes b x) = (x ≡ w) × (b ≡ a)
+GivesAlike w a (Ends (Outside cause) x) = x ≡ w
+GivesAlike w a (Ends (Trapped kind) x) = ⊥
+GivesAlike w a (Ends (Exited n) x) = ⊥
+GivesAlike w a (Ends (Reported kind line) x) = ⊥
+GivesAlike w a (Ends Cut x) = ⊥
+
+-- words are ordered as their addresses are
+abbrev pub is_in_order : OrderOp → (a b : ℕ) → Bool
+is_in_order order.Below a b = nat_lt (unmarked a) (unmarked b)
+is_in_order order.AtMost a b = nat_le (unmarked a) (unmarked b)
+is_in_order order.Above a b = nat_lt (unmarked b) (unmarked a)
+is_in_order order.AtLeast a b = nat_le (unmarked b) (unmarked a)
+
+pub record ComparesAlike (w : World) (v x : Value) (a b : ℕ) : Type 0 where
+  pub equality : GivesAlike w (Num (flag (a == b))) (same v x w)
+  pub orders : (o : OrderOp) → GivesAlike w (Num (flag (is_in_order o a b))) (ordered o v x w)
+  pub differences : (size : ℕ) → GivesAlike w (Num (difference a b size)) (elements_between size v x w)
+
+abbrev pub ComparisonsAreOfWords : Type 0
+ComparisonsAreOfWords =
+    (g : ℕ) (v x : Value) (w : World) → AreLaidOut g w.objects → IsValue g w.objects v → IsValue g w.objects x
+    → ComparesAlike w v x (word_of_value w.objects v) (word_of_value w.objects x)
+
+abbrev pub TruthIsOfWords : Type 0
+TruthIsOfWords = (g : ℕ) (v : Value) (w : World) → AreLaidOut g w.objects → IsValue g w.objects v → GivesAlike w (not (word_of_value w.objects v == 0)) (truth v w)

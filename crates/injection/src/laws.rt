@@ -1,5 +1,5 @@
 //! What each operation on objects is on words and memory, for what stands on it.
-ghost use Rattle.injection.specs.Laws.{AccountsCompose, AccountsKeep, AccountsGrow, PointersAreOwned, OwnersHaveExponents, MovesAreMoved, AccessesAreFound};
+ghost use Rattle.injection.specs.Laws.{AccountsCompose, AccountsKeep, AccountsGrow, PointersAreOwned, OwnersHaveExponents, MovesAreMoved, AccessesAreFound, LoadsAreReads, StoresAreWrites, InitializersAreWrites, ClearsAreZeros, CopiesAreBytes, SetsAreBytes, ComparisonsAreOfWords, TruthIsOfWords};
 
 /// What objects keep over two parts of a run they keep over both.
 pub fn accounts_compose()
@@ -42,3 +42,57 @@ pub fn moves_are_moved()
 pub fn accesses_are_found()
     ensures { AccessesAreFound }
 {}
+
+/// A value that is read by a pointer is read by its word, and code may go on with it.
+pub fn loads_are_reads()
+    ensures { LoadsAreReads }
+{
+    marked_ptr::laws::owner_is_block();
+}
+
+/// A value that is written by a pointer is written by its word.
+pub fn stores_are_writes()
+    ensures { StoresAreWrites }
+{}
+
+/// A value that a part of an object gets at its start is written there.
+pub fn initializers_are_writes()
+    ensures { InitializersAreWrites }
+{}
+
+/// An object is cleared by zeros.
+pub fn clears_are_zeros()
+    ensures { ClearsAreZeros }
+{}
+
+/// Cells are copied as bytes are.
+pub fn copies_are_bytes()
+    ensures { CopiesAreBytes }
+{}
+
+/// Cells are set as bytes are.
+pub fn sets_are_bytes()
+    ensures { SetsAreBytes }
+{}
+
+/// Pointers compare, and lie from one another, as their words do.
+pub fn comparisons_are_of_words()
+    ensures { ComparisonsAreOfWords }
+{
+    marked_ptr::laws::words_are_apart();
+    marked_ptr::laws::words_are_offsets();
+    marked_ptr::laws::words_are_not_null();
+    marked_ptr::laws::order_is_offsets();
+    marked_ptr::laws::difference_is_offsets();
+}
+
+/// A value is true just where its word is not 0.
+pub fn truth_is_of_words()
+    ensures { TruthIsOfWords }
+{
+    marked_ptr::laws::words_are_apart();
+    marked_ptr::laws::words_are_offsets();
+    marked_ptr::laws::words_are_not_null();
+    marked_ptr::laws::order_is_offsets();
+    marked_ptr::laws::difference_is_offsets();
+}
