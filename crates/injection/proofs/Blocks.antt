@@ -26,7 +26,7 @@ held_once g a b slot m h = apart (2 ^ g) (pow_pos g) (2 ^ g * slot) a.base (end_
     apart p q x al ah bl bh (inl m) h = grind (arith, nat_tests)
     apart p q x al ah bl bh (inr m) h = grind (arith, nat_tests)
 
-misses_among : (b a : Block) (bs : List Block) → MissesAll b bs → IsAmong a bs → MissEachOther b a
+pub misses_among : (b a : Block) (bs : List Block) → MissesAll b bs → IsAmong a bs → MissEachOther b a
 misses_among b a [] m h = absurd h
 misses_among b a (c ∷ cs) m (inl e) = subst (MissEachOther b) (sym e) m.0
 misses_among b a (c ∷ cs) m (inr h) = misses_among b a cs m.1 h

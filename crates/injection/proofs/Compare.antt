@@ -74,11 +74,22 @@ less_of_offsets y z = at (int_lt y z) (int_lt z y)
 at_most : (a b : ℕ) → not (nat_lt b a) ≡ nat_le a b
 at_most a b = grind (arith, nat_tests)
 
-module _ (laws : MarkedLaws) (g : ℕ) (w : World) (out : AreLaidOut g w.objects) where
+module _ (nulls : WordsAreNotNull) (g : ℕ) (w : World) (out : AreLaidOut g w.objects) where
 
   pub not_null : (k : ℕ) (z : ℤ) → IsInto g w.objects k z → word_of w.objects (To k z) ≢ 0
   not_null k z t e =
-      laws.not_null g t.object.base t.object.exponent z (out.accounts k t.object t.live.there).placed t.reach (sym (into_word g w.objects k z t) ∙ e)
+      nulls g t.object.base t.object.exponent z (out.accounts k t.object t.live.there).placed t.reach (sym (into_word g w.objects k z t) ∙ e)
+
+  pub truth_alike : (v : Value) → IsValue g w.objects v → GivesAlike w (not (word_of_value w.objects v == 0)) (truth v w)
+  truth_alike (Num n) f = (refl, refl)
+  truth_alike (Ptr Null) f = (refl, refl)
+  truth_alike (Ptr (To k z)) f = at (is_sound w (To k z)) refl
+    where
+      at : (t : Bool) → is_sound w (To k z) ≡ t → GivesAlike w (not (word_of w.objects (To k z) == 0)) (cond t (Goes true w) (outside Dead w))
+      at false e = refl
+      at true e = (refl, sym (ap not (ne_eqb (word_of w.objects (To k z)) 0 (not_null k z (sound_into g w k z f e)))))
+
+module _ (laws : MarkedLaws) (g : ℕ) (w : World) (out : AreLaidOut g w.objects) where
 
   -- the second pointer by the object of the first
   by_first : (j k : ℕ) (z : ℤ) → (s : Object) → IsLive w.objects j s → j ≡ k → (t : IsInto g w.objects k z) → IsInReach g s.exponent z × (word_of w.objects (To k z) ≡ word_at s.base s.exponent z)
@@ -102,8 +113,8 @@ module _ (laws : MarkedLaws) (g : ℕ) (w : World) (out : AreLaidOut g w.objects
 
   pointers_equal : (q r : Pointer) → IsPointer g w.objects q → IsPointer g w.objects r → is_sound w q ≡ true → is_sound w r ≡ true → same_pointer q r ≡ (word_of w.objects q == word_of w.objects r)
   pointers_equal Null Null f h s t = refl
-  pointers_equal Null (To k z) f h s t = sym (ne_eqb 0 (word_of w.objects (To k z)) (λ e. not_null k z (sound_into g w k z h t) (sym e)))
-  pointers_equal (To k z) Null f h s t = sym (ne_eqb (word_of w.objects (To k z)) 0 (not_null k z (sound_into g w k z f s)))
+  pointers_equal Null (To k z) f h s t = sym (ne_eqb 0 (word_of w.objects (To k z)) (λ e. not_null laws.not_null g w out k z (sound_into g w k z h t) (sym e)))
+  pointers_equal (To k z) Null f h s t = sym (ne_eqb (word_of w.objects (To k z)) 0 (not_null laws.not_null g w out k z (sound_into g w k z f s)))
   pointers_equal (To j y) (To k z) f h s t = at (cases_eq j k)
     where
       at : (j ≡ k) ⊎ (j ≡ k → ⊥) → ((j == k) && same_int y z) ≡ (word_of w.objects (To j y) == word_of w.objects (To k z))
@@ -165,12 +176,3 @@ module _ (laws : MarkedLaws) (g : ℕ) (w : World) (out : AreLaidOut g w.objects
     differences = λ size. both_alike (Num (difference (word_of_value w.objects v) (word_of_value w.objects x) size)) (within_one (λ y z. numbers.word_of (int_div (y -ℤ z) (pos size)))) v x a b
         (λ q r ev ex fq fr sq sr. within_alike (λ y z. numbers.word_of (int_div (y -ℤ z) (pos size))) (difference (word_of_value w.objects v) (word_of_value w.objects x) size) q r fq fr sq sr
         (λ j k y z eq er e s t. difference_alike size j k y z e s t ∙ ap (λ c. difference c (word_of w.objects (To k z)) size) (sym (ap (word_of_value w.objects) ev ∙ ap (word_of w.objects) eq)) ∙ ap (λ c. difference (word_of_value w.objects v) c size) (sym (ap (word_of_value w.objects) ex ∙ ap (word_of w.objects) er)))) }
-
-  pub truth_alike : (v : Value) → IsValue g w.objects v → GivesAlike w (not (word_of_value w.objects v == 0)) (truth v w)
-  truth_alike (Num n) f = (refl, refl)
-  truth_alike (Ptr Null) f = (refl, refl)
-  truth_alike (Ptr (To k z)) f = at (is_sound w (To k z)) refl
-    where
-      at : (t : Bool) → is_sound w (To k z) ≡ t → GivesAlike w (not (word_of w.objects (To k z) == 0)) (cond t (Goes true w) (outside Dead w))
-      at false e = refl
-      at true e = (refl, sym (ap not (ne_eqb (word_of w.objects (To k z)) 0 (not_null k z (sound_into g w k z f e)))))

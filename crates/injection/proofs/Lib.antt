@@ -9,3 +9,4 @@ pub mod Access
 pub mod Copies
 pub mod Values
 pub mod Compare
+pub mod Regions

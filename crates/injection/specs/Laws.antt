@@ -1,9 +1,9 @@
 -- What each operation on objects is on words and memory, for slots of 2 ^ g bytes.
-use Rattle.std.specs.Prelude.{◌≡◌, ◌==◌, ◌⊎◌, ℕ, ◌+◌, ◌-◌, ◌^◌, ◌<◌, ◌≤◌, nat_lt, nat_le, Bool, true, not, List, [], ◌∷◌, ◌++◌, length, Some, None, slice_get, ℤ, pos}
+use Rattle.std.specs.Prelude.{◌≡◌, ◌≢◌, ◌==◌, ◌⊎◌, ℕ, ◌+◌, ◌-◌, ◌^◌, ◌<◌, ◌≤◌, nat_lt, nat_le, Bool, true, false, not, List, [], ◌∷◌, ◌++◌, length, Option, Some, None, slice_get, ℤ, pos}
 use Rattle.bb_words.specs.Answers.{Goes, Ends}
 use Rattle.bb_words.specs.Numbers.{signed}
 use Rattle.bb_words.specs.Steps.{flag, size_of_width}
-use Rattle.bb_words.specs.declared.kinds.ReportKind.TheVariants.{Bounds}
+use Rattle.bb_words.specs.declared.kinds.ReportKind.TheVariants.{Bounds, BadFree}
 use Rattle.bb_words.specs.declared.steps.Width.{Width}
 use Rattle.bb_words.specs.declared.steps.OrderOp.{OrderOp}
 use Rattle.bb_words.specs.declared.steps.OrderOp.TheVariants as order
@@ -11,28 +11,34 @@ use Rattle.marked_ptr.specs.Marked.{owner_slot, unmarked, difference, moved, ins
 use Rattle.marked_ptr.specs.Laws.{IsInReach}
 use Rattle.marked_ptr.specs.declared.answer.MoveAnswer.{MoveAnswer}
 use Rattle.marked_ptr.specs.declared.answer.MoveAnswer.TheVariants.{Report}
-use Rattle.size_table.specs.declared.memory_map.TheConstants.{HEAP_START}
+use Rattle.size_table.specs.declared.memory_map.TheConstants.{HEAP_START, MOST_BYTES}
+use Rattle.size_table.specs.Blocks.{block_at, without}
+use Rattle.size_table.specs.Pads.{exponent_of}
 use Rattle.size_table.specs.Table as table
+use Rattle.buddy_heap.specs.Places.{place_of}
 use Rattle.source_meaning.specs.declared.values.Pointer.{Pointer}
-use Rattle.source_meaning.specs.declared.values.Pointer.TheVariants.{To}
+use Rattle.source_meaning.specs.declared.values.Pointer.TheVariants.{Null, To}
 use Rattle.source_meaning.specs.declared.values.Value.{Value}
 use Rattle.source_meaning.specs.declared.values.Value.TheVariants.{Num, Ptr}
+use Rattle.source_meaning.specs.declared.values.ObjectKind.TheVariants.{Heap}
 use Rattle.source_meaning.specs.declared.values.Cell.{Cell}
 use Rattle.source_meaning.specs.declared.values.Ending.TheVariants.{Exited, Reported, Trapped, Outside, Cut}
 use Rattle.source_meaning.specs.Objects.{Object, Cells, cleared, copied, all_set, ended_in}
-use Rattle.source_meaning.specs.Worlds.{World, Does, Mark, Moved, noted, live_blocks}
+use Rattle.source_meaning.specs.Worlds.{World, Does, Mark, Moved, noted, made, ended, is_heap, live_blocks, heap_blocks}
 use Rattle.source_meaning.specs.Moves.{move}
 use Rattle.source_meaning.specs.Accesses.{access, load, store}
 use Rattle.source_meaning.specs.Comparisons.{same, ordered, elements_between, truth}
+use Rattle.source_meaning.specs.Accounts.{free}
 use Rattle.source_meaning.specs.Copies.{initialize, with_bytes as counted}
 use Rattle.flat_code.specs.World.{Memory, Words, read, with_bytes, bytes_of, zeroed}
 use Rattle.flat_code.specs.World.{Ending as FlatEnding}
 use Rattle.flat_code.specs.Run.{refusal}
+use Rattle.flat_code.specs.Accounts.{heap_block}
 use Rattle.flat_code.specs.Sequences.{may_be_loaded}
 use Rattle.injection.specs.Words.{word_of, word_of_value, byte_of}
-use Rattle.injection.specs.Memory.{IsLive, AreLaidOut, IsPointer, IsValue, IsCell, Injects, SameValues}
+use Rattle.injection.specs.Memory.{IsLive, IsAccount, AreLaidOut, IsFree, IsPointer, IsValue, IsCell, Injects, SameValues}
 use Rattle.injection.specs.Trail.{SafeSites, image_trail, TrailIsNamed}
-use Rattle.injection.specs.Worlds.{Accounted, Stays, Since}
+use Rattle.injection.specs.Worlds.{Accounted, Stays, Since, Heights, InRegions}
 use Rattle.injection.specs.Copies.{copied_bytes, set_bytes}
 
 -- ---- Accounts
@@ -232,3 +238,68 @@ ComparisonsAreOfWords =
 
 abbrev pub TruthIsOfWords : Type 0
 TruthIsOfWords = (g : ℕ) (v : Value) (w : World) → AreLaidOut g w.objects → IsValue g w.objects v → GivesAlike w (not (word_of_value w.objects v == 0)) (truth v w)
+
+-- ---- Objects that come and go
+
+-- An object is made where no live one is: its block comes last of the live ones, and its bytes are zero.
+pub record MadeAlike (g : ℕ) (os : List Object) (cs : Cells) (memory : Memory) (o : Object) : Type 0 where
+  pub keeps : Injects g (os ++ o ∷ []) (cleared cs (length os)) (zeroed memory o.base (2 ^ o.exponent))
+  pub blocks : live_blocks (os ++ o ∷ []) ≡ live_blocks os ++ block_at o.base o.exponent ∷ []
+
+abbrev pub MadeKeeps : Type 0
+MadeKeeps =
+    (g : ℕ) (os : List Object) (cs : Cells) (memory : Memory) (o : Object) → o.live ≡ true → IsAccount g o → IsFree os o → Injects g os cs memory
+    → MadeAlike g os cs memory o
+
+-- A live object ends: its block lives no more, and its bytes stay.
+pub record EndedAlike (g : ℕ) (os : List Object) (cs : Cells) (memory : Memory) (k : ℕ) (o : Object) : Type 0 where
+  pub keeps : Injects g (ended_in os k (Some o)) (cleared cs k) memory
+  pub blocks : live_blocks (ended_in os k (Some o)) ≡ without o.base (live_blocks os)
+
+abbrev pub EndedKeeps : Type 0
+EndedKeeps = (g : ℕ) (os : List Object) (cs : Cells) (memory : Memory) (k : ℕ) (o : Object) → IsLive os k o → Injects g os cs memory → EndedAlike g os cs memory k o
+
+-- heights and regions, when objects come and go
+pub record PlacesKeep : Type 0 where
+  pub heights_made : (os : List Object) (o : Object) (stack : ℕ) → Heights os stack → stack ≤ o.base → Heights (os ++ o ∷ []) stack
+  pub heights_since : (before after : List Object) (stack : ℕ) → Heights before stack → Since before after → Heights after stack
+  pub heap_made : (os : List Object) (o : Object) → InRegions os → is_heap o.kind ≡ true → HEAP_START ≤ o.base → InRegions (os ++ o ∷ [])
+  pub other_made : (os : List Object) (o : Object) → InRegions os → is_heap o.kind ≡ false → o.base + 2 ^ o.exponent ≤ HEAP_START → InRegions (os ++ o ∷ [])
+  pub regions_ended : (os : List Object) (k : ℕ) → InRegions os → InRegions (ended_in os k (slice_get os k))
+
+-- ---- The heap
+
+abbrev pub heap_object : (g n base : ℕ) → Object
+heap_object g n base = record { kind = Heap; length = n; live = true; base = base; exponent = exponent_of g n }
+
+-- The place of a block beside those of the heap is the place beside all blocks; and an object may be made there.
+pub record HasPlace (g n : ℕ) (os : List Object) : Type 0 where
+  pub same : place_of (heap_blocks os) (exponent_of g n) ≡ place_of (live_blocks os) (exponent_of g n)
+  pub heap : (base : ℕ) → place_of (live_blocks os) (exponent_of g n) ≡ Some base → HEAP_START ≤ base
+  pub account : (base : ℕ) → place_of (live_blocks os) (exponent_of g n) ≡ Some base → IsAccount g (heap_object g n base)
+  pub free : (base : ℕ) → place_of (live_blocks os) (exponent_of g n) ≡ Some base → IsFree os (heap_object g n base)
+
+abbrev pub PlacesAreFree : Type 0
+PlacesAreFree = (g n : ℕ) (os : List Object) → 1 ≤ g → g ≤ 24 → n ≤ MOST_BYTES → InRegions os → HasPlace g n os
+
+-- a live object of the heap ends by the pointer to its start, whose word is the address of its block
+pub record Frees (w : World) (at : ℕ) (x : World) : Type 0 where
+  pub number : ℕ
+  pub object : Object
+  pub live : IsLive w.objects number object
+  pub world : x ≡ ended number w
+  pub not_null : at ≢ 0
+  pub base : at ≡ object.base
+  pub block : heap_block at (live_blocks w.objects) ≡ Some (block_at object.base object.exponent)
+
+-- a pointer is freed, or that is reported, just where its word is; or the run leaves its objects
+abbrev pub FreesAlike : (line : ℕ) → World → (at : ℕ) → Does Value → Type 0
+FreesAlike line w at (Goes v x) = (v ≡ Num 0) × (((at ≡ 0) × (x ≡ w)) ⊎ Frees w at x)
+FreesAlike line w at (Ends (Reported kind name) x) = (x ≡ w) × (kind ≡ BadFree) × (name ≡ line) × (at ≢ 0) × (heap_block at (live_blocks w.objects) ≡ None)
+FreesAlike line w at (Ends (Outside cause) x) = x ≡ w
+FreesAlike line w at (Ends (Exited n) x) = ⊥
+FreesAlike line w at (Ends (Trapped kind) x) = ⊥
+FreesAlike line w at (Ends Cut x) = ⊥
+
+abbrev pub FreesAreOfBlocks : Type 0
+FreesAreOfBlocks = (g line : ℕ) (q : Pointer) (w : World) → AreLaidOut g w.objects → InRegions w.objects → IsPointer g w.objects q → FreesAlike line w (word_of w.objects q) (free line q w)

@@ -1,5 +1,5 @@
 //! What each operation on objects is on words and memory, for what stands on it.
-ghost use Rattle.injection.specs.Laws.{AccountsCompose, AccountsKeep, AccountsGrow, PointersAreOwned, OwnersHaveExponents, MovesAreMoved, AccessesAreFound, LoadsAreReads, StoresAreWrites, InitializersAreWrites, ClearsAreZeros, CopiesAreBytes, SetsAreBytes, ComparisonsAreOfWords, TruthIsOfWords};
+ghost use Rattle.injection.specs.Laws.{AccountsCompose, AccountsKeep, AccountsGrow, PointersAreOwned, OwnersHaveExponents, MovesAreMoved, AccessesAreFound, LoadsAreReads, StoresAreWrites, InitializersAreWrites, ClearsAreZeros, CopiesAreBytes, SetsAreBytes, ComparisonsAreOfWords, TruthIsOfWords, MadeKeeps, EndedKeeps, PlacesKeep, PlacesAreFree, FreesAreOfBlocks};
 
 /// What objects keep over two parts of a run they keep over both.
 pub fn accounts_compose()
@@ -90,9 +90,36 @@ pub fn comparisons_are_of_words()
 pub fn truth_is_of_words()
     ensures { TruthIsOfWords }
 {
-    marked_ptr::laws::words_are_apart();
-    marked_ptr::laws::words_are_offsets();
     marked_ptr::laws::words_are_not_null();
-    marked_ptr::laws::order_is_offsets();
-    marked_ptr::laws::difference_is_offsets();
+}
+
+/// An object that is made where no live one is keeps it that memory holds what objects hold.
+pub fn made_keeps()
+    ensures { MadeKeeps }
+{}
+
+/// An object that ends keeps it.
+pub fn ended_keeps()
+    ensures { EndedKeeps }
+{}
+
+/// Objects come and go in their regions, and above the free part of the data stack.
+pub fn places_keep()
+    ensures { PlacesKeep }
+{}
+
+/// A block has the same place beside the objects of the heap and beside all, and no live object is there.
+pub fn places_are_free()
+    ensures { PlacesAreFree }
+{
+    buddy_heap::laws::place_is_least();
+    buddy_heap::laws::one_place();
+    size_table::laws::exponent_is_least();
+}
+
+/// A pointer is freed just where its word is.
+pub fn frees_are_of_blocks()
+    ensures { FreesAreOfBlocks }
+{
+    marked_ptr::laws::words_are_not_null();
 }
