@@ -10,3 +10,4 @@ pub mod Copies
 pub mod Values
 pub mod Compare
 pub mod Regions
+pub mod Frames

@@ -1,5 +1,5 @@
 -- What each operation on objects is on words and memory, for slots of 2 ^ g bytes.
-use Rattle.std.specs.Prelude.{◌≡◌, ◌≢◌, ◌==◌, ◌⊎◌, ℕ, ◌+◌, ◌-◌, ◌^◌, ◌<◌, ◌≤◌, nat_lt, nat_le, Bool, true, false, not, List, [], ◌∷◌, ◌++◌, length, Option, Some, None, slice_get, ℤ, pos}
+use Rattle.std.specs.Prelude.{◌≡◌, ◌≢◌, ◌==◌, ◌⊎◌, ℕ, ◌+◌, ◌-◌, ◌^◌, ◌<◌, ◌≤◌, nat_lt, nat_le, Bool, true, false, not, List, [], ◌∷◌, ◌++◌, length, map, reverse, Option, Some, None, slice_get, ℤ, pos}
 use Rattle.bb_words.specs.Answers.{Goes, Ends}
 use Rattle.bb_words.specs.Numbers.{signed}
 use Rattle.bb_words.specs.Steps.{flag, size_of_width}
@@ -11,29 +11,31 @@ use Rattle.marked_ptr.specs.Marked.{owner_slot, unmarked, difference, moved, ins
 use Rattle.marked_ptr.specs.Laws.{IsInReach}
 use Rattle.marked_ptr.specs.declared.answer.MoveAnswer.{MoveAnswer}
 use Rattle.marked_ptr.specs.declared.answer.MoveAnswer.TheVariants.{Report}
-use Rattle.size_table.specs.declared.memory_map.TheConstants.{HEAP_START, MOST_BYTES}
+use Rattle.size_table.specs.declared.memory_map.TheConstants.{STACK_START, HEAP_START, MOST_BYTES}
 use Rattle.size_table.specs.Blocks.{block_at, without}
+use Rattle.size_table.specs.Made.{blocks_from}
 use Rattle.size_table.specs.Pads.{exponent_of}
 use Rattle.size_table.specs.Table as table
 use Rattle.buddy_heap.specs.Places.{place_of}
+use Rattle.block_layout.specs.Layout.{Placed}
 use Rattle.source_meaning.specs.declared.values.Pointer.{Pointer}
 use Rattle.source_meaning.specs.declared.values.Pointer.TheVariants.{Null, To}
 use Rattle.source_meaning.specs.declared.values.Value.{Value}
 use Rattle.source_meaning.specs.declared.values.Value.TheVariants.{Num, Ptr}
-use Rattle.source_meaning.specs.declared.values.ObjectKind.TheVariants.{Heap}
+use Rattle.source_meaning.specs.declared.values.ObjectKind.TheVariants.{Local, Heap}
 use Rattle.source_meaning.specs.declared.values.Cell.{Cell}
 use Rattle.source_meaning.specs.declared.values.Ending.TheVariants.{Exited, Reported, Trapped, Outside, Cut}
 use Rattle.source_meaning.specs.Objects.{Object, Cells, cleared, copied, all_set, ended_in}
-use Rattle.source_meaning.specs.Worlds.{World, Does, Mark, Moved, noted, made, ended, is_heap, live_blocks, heap_blocks}
+use Rattle.source_meaning.specs.Worlds.{World, Does, Mark, Moved, noted, made, ended, all_ended, is_heap, live_blocks, heap_blocks}
 use Rattle.source_meaning.specs.Moves.{move}
 use Rattle.source_meaning.specs.Accesses.{access, load, store}
 use Rattle.source_meaning.specs.Comparisons.{same, ordered, elements_between, truth}
-use Rattle.source_meaning.specs.Accounts.{free}
+use Rattle.source_meaning.specs.Accounts.{object_of, all_made, free}
 use Rattle.source_meaning.specs.Copies.{initialize, with_bytes as counted}
-use Rattle.flat_code.specs.World.{Memory, Words, read, with_bytes, bytes_of, zeroed}
+use Rattle.flat_code.specs.World.{Memory, Words, FWorld, read, with_bytes, bytes_of, zeroed}
 use Rattle.flat_code.specs.World.{Ending as FlatEnding}
 use Rattle.flat_code.specs.Run.{refusal}
-use Rattle.flat_code.specs.Accounts.{heap_block}
+use Rattle.flat_code.specs.Accounts.{make_all, end_all, heap_block}
 use Rattle.flat_code.specs.Sequences.{may_be_loaded}
 use Rattle.injection.specs.Words.{word_of, word_of_value, byte_of}
 use Rattle.injection.specs.Memory.{IsLive, IsAccount, AreLaidOut, IsFree, IsPointer, IsValue, IsCell, Injects, SameValues}
@@ -303,3 +305,51 @@ FreesAlike line w at (Ends Cut x) = ⊥
 
 abbrev pub FreesAreOfBlocks : Type 0
 FreesAreOfBlocks = (g line : ℕ) (q : Pointer) (w : World) → AreLaidOut g w.objects → InRegions w.objects → IsPointer g w.objects q → FreesAlike line w (word_of w.objects q) (free line q w)
+
+-- ---- Frames
+
+abbrev pub exponents : List Placed → List ℕ
+exponents [] = []
+exponents (placed ∷ rest) = placed.exponent ∷ exponents rest
+
+-- the objects of a frame that begins at `start`
+abbrev pub frame_objects : (start : ℕ) → List Placed → List Object
+frame_objects start plan = map (object_of Local start) plan
+
+-- The objects of a frame come from an address on without gaps, each where its padded block may stand, and end by `top`.
+abbrev pub IsLaid : (g start at top : ℕ) → List Placed → Type 0
+IsLaid g start at top [] = at ≤ top
+IsLaid g start at top (placed ∷ rest) =
+    (start + placed.offset ≡ at) × IsAccount g (object_of Local start placed) × IsLaid g start (at + 2 ^ placed.exponent) top rest
+
+-- what holds once the objects of a frame are made, and their blocks
+pub record Entered (g start : ℕ) (plan : List Placed) (w : World) (v : World) (t : FWorld) : Type 0 where
+  pub keeps : Injects g v.objects v.cells t.memory
+  pub blocks : t.live ≡ live_blocks v.objects
+  pub objects : v.objects ≡ w.objects ++ frame_objects start plan
+  pub heights : Heights v.objects start
+  pub regions : InRegions v.objects
+
+-- A frame is entered in the free part of the data stack.
+abbrev pub EntriesKeep : Type 0
+EntriesKeep =
+    (g start : ℕ) (plan : List Placed) (w : World) (u : FWorld) (stack : ℕ) → IsLaid g start start stack plan → STACK_START ≤ start → start ≤ stack
+    → Injects g w.objects w.cells u.memory → u.live ≡ live_blocks w.objects → Heights w.objects stack → InRegions w.objects
+    → Entered g start plan w (all_made Local start plan w) (make_all (blocks_from start (exponents plan)) u)
+
+-- what holds once the objects of a frame have ended, and their blocks, the last one first
+pub record Left (g : ℕ) (caller : List Object) (v : World) (t : FWorld) : Type 0 where
+  pub keeps : Injects g v.objects v.cells t.memory
+  pub blocks : t.live ≡ live_blocks v.objects
+  pub accounted : Accounted caller v.objects
+  pub stays : Stays caller v.objects
+  pub since : Since caller v.objects
+  pub regions : InRegions v.objects
+
+-- A frame is left: what lived below the heap when it was entered still does, and nothing else does there.
+abbrev pub ExitsKeep : Type 0
+ExitsKeep =
+    (g start stack : ℕ) (plan : List Placed) (caller : List Object) (w : World) (u : FWorld) → IsLaid g start start stack plan → stack ≤ HEAP_START
+    → Accounted (caller ++ frame_objects start plan) w.objects → Stays (caller ++ frame_objects start plan) w.objects → Since (caller ++ frame_objects start plan) w.objects
+    → Injects g w.objects w.cells u.memory → u.live ≡ live_blocks w.objects → InRegions w.objects
+    → Left g caller (all_ended (length plan) (length caller) w) (end_all (reverse (blocks_from start (exponents plan))) u)

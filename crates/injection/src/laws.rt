@@ -1,5 +1,5 @@
 //! What each operation on objects is on words and memory, for what stands on it.
-ghost use Rattle.injection.specs.Laws.{AccountsCompose, AccountsKeep, AccountsGrow, PointersAreOwned, OwnersHaveExponents, MovesAreMoved, AccessesAreFound, LoadsAreReads, StoresAreWrites, InitializersAreWrites, ClearsAreZeros, CopiesAreBytes, SetsAreBytes, ComparisonsAreOfWords, TruthIsOfWords, MadeKeeps, EndedKeeps, PlacesKeep, PlacesAreFree, FreesAreOfBlocks};
+ghost use Rattle.injection.specs.Laws.{AccountsCompose, AccountsKeep, AccountsGrow, PointersAreOwned, OwnersHaveExponents, MovesAreMoved, AccessesAreFound, LoadsAreReads, StoresAreWrites, InitializersAreWrites, ClearsAreZeros, CopiesAreBytes, SetsAreBytes, ComparisonsAreOfWords, TruthIsOfWords, MadeKeeps, EndedKeeps, PlacesKeep, PlacesAreFree, FreesAreOfBlocks, EntriesKeep, ExitsKeep};
 
 /// What objects keep over two parts of a run they keep over both.
 pub fn accounts_compose()
@@ -123,3 +123,13 @@ pub fn frees_are_of_blocks()
 {
     marked_ptr::laws::words_are_not_null();
 }
+
+/// The objects of a frame are made, and their blocks.
+pub fn entries_keep()
+    ensures { EntriesKeep }
+{}
+
+/// The objects of a frame end, and their blocks.
+pub fn exits_keep()
+    ensures { ExitsKeep }
+{}
