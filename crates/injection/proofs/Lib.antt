@@ -11,3 +11,4 @@ pub mod Values
 pub mod Compare
 pub mod Regions
 pub mod Frames
+pub mod Layouts

@@ -17,7 +17,7 @@ use Rattle.size_table.specs.Made.{blocks_from}
 use Rattle.size_table.specs.Pads.{exponent_of}
 use Rattle.size_table.specs.Table as table
 use Rattle.buddy_heap.specs.Places.{place_of}
-use Rattle.block_layout.specs.Layout.{Placed}
+use Rattle.block_layout.specs.Layout.{Item, Placed, layout, stack_under}
 use Rattle.source_meaning.specs.declared.values.Pointer.{Pointer}
 use Rattle.source_meaning.specs.declared.values.Pointer.TheVariants.{Null, To}
 use Rattle.source_meaning.specs.declared.values.Value.{Value}
@@ -35,6 +35,7 @@ use Rattle.source_meaning.specs.Copies.{initialize, with_bytes as counted}
 use Rattle.flat_code.specs.World.{Memory, Words, FWorld, read, with_bytes, bytes_of, zeroed}
 use Rattle.flat_code.specs.World.{Ending as FlatEnding}
 use Rattle.flat_code.specs.Run.{refusal}
+use Rattle.flat_code.specs.Accounts as accounts
 use Rattle.flat_code.specs.Accounts.{make_all, end_all, heap_block}
 use Rattle.flat_code.specs.Sequences.{may_be_loaded}
 use Rattle.injection.specs.Words.{word_of, word_of_value, byte_of}
@@ -353,3 +354,18 @@ ExitsKeep =
     → Accounted (caller ++ frame_objects start plan) w.objects → Stays (caller ++ frame_objects start plan) w.objects → Since (caller ++ frame_objects start plan) w.objects
     → Injects g w.objects w.cells u.memory → u.live ≡ live_blocks w.objects → InRegions w.objects
     → Left g caller (all_ended (length plan) (length caller) w) (end_all (reverse (blocks_from start (exponents plan))) u)
+
+-- no object has more than 16 MiB
+abbrev pub AreSmall : List Item → Type 0
+AreSmall [] = Unit {0}
+AreSmall (item ∷ items) = (item.length ≤ MOST_BYTES) × AreSmall items
+
+-- The stack number of a frame is one for its objects and for its blocks. If it is none below the data stack, the objects
+-- may be laid from there on.
+pub record FramesAlike (g stack : ℕ) (items : List Item) : Type 0 where
+  pub number : accounts.stack_under g stack (exponents (layout g items)) ≡ stack_under g stack items
+  pub under : STACK_START ≤ stack_under g stack items → stack_under g stack items ≤ stack
+  pub laid : STACK_START ≤ stack_under g stack items → IsLaid g (stack_under g stack items) (stack_under g stack items) stack (layout g items)
+
+abbrev pub FramesAreAlike : Type 0
+FramesAreAlike = (g stack : ℕ) (items : List Item) → 1 ≤ g → g ≤ 24 → stack ≤ HEAP_START → AreSmall items → FramesAlike g stack items

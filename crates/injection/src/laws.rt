@@ -1,5 +1,5 @@
 //! What each operation on objects is on words and memory, for what stands on it.
-ghost use Rattle.injection.specs.Laws.{AccountsCompose, AccountsKeep, AccountsGrow, PointersAreOwned, OwnersHaveExponents, MovesAreMoved, AccessesAreFound, LoadsAreReads, StoresAreWrites, InitializersAreWrites, ClearsAreZeros, CopiesAreBytes, SetsAreBytes, ComparisonsAreOfWords, TruthIsOfWords, MadeKeeps, EndedKeeps, PlacesKeep, PlacesAreFree, FreesAreOfBlocks, EntriesKeep, ExitsKeep};
+ghost use Rattle.injection.specs.Laws.{AccountsCompose, AccountsKeep, AccountsGrow, PointersAreOwned, OwnersHaveExponents, MovesAreMoved, AccessesAreFound, LoadsAreReads, StoresAreWrites, InitializersAreWrites, ClearsAreZeros, CopiesAreBytes, SetsAreBytes, ComparisonsAreOfWords, TruthIsOfWords, MadeKeeps, EndedKeeps, PlacesKeep, PlacesAreFree, FreesAreOfBlocks, EntriesKeep, ExitsKeep, FramesAreAlike};
 
 /// What objects keep over two parts of a run they keep over both.
 pub fn accounts_compose()
@@ -133,3 +133,10 @@ pub fn entries_keep()
 pub fn exits_keep()
     ensures { ExitsKeep }
 {}
+
+/// The objects of a frame lie where their blocks do.
+pub fn frames_are_alike()
+    ensures { FramesAreAlike }
+{
+    size_table::laws::exponent_is_least();
+}
