@@ -1,5 +1,5 @@
 -- Accesses of words find what accesses of objects find.
-use Rattle.std.proofs.Common.{◌≡◌, ◌⊎◌, ℕ, zero, suc, ◌+◌, ◌*◌, ◌-◌, ◌/◌, ◌%◌, ◌≤◌, ◌<◌, ◌^◌, Bool, true, false, List, [], ◌∷◌, Option, Some, None, slice_get, refl, sym, ap, ◌∙◌, subst, inl, inr, arith, cond, nat_lt, nat_le, ◌==◌, ℤ, pos, negsuc, pow_pos, true≢false}
+use Rattle.std.proofs.Common.{◌≡◌, ℕ, suc, ◌+◌, ◌*◌, ◌-◌, ◌/◌, ◌%◌, ◌≤◌, ◌<◌, ◌^◌, Bool, true, false, Option, Some, None, slice_get, refl, sym, ap, ◌∙◌, arith, cond, nat_lt, nat_le, ◌==◌, ℤ, pos, negsuc, true≢false}
 use Rattle.std.proofs.lemmas.Bool.Decides.{nat_tests}
 use Rattle.std.proofs.lemmas.Nat.{pow-add, div-add-mod'}
 use Rattle.bb_words.specs.Answers.{Goes, Ends}
@@ -14,13 +14,13 @@ use Rattle.source_meaning.specs.declared.values.Pointer.TheVariants.{Null, To}
 use Rattle.source_meaning.specs.declared.values.OutsideCause.TheVariants.{Dead, Padding}
 use Rattle.source_meaning.specs.declared.values.Ending.TheVariants.{Trapped}
 use Rattle.source_meaning.specs.Objects.{Object}
-use Rattle.source_meaning.specs.Worlds.{World, Does, outside}
+use Rattle.source_meaning.specs.Worlds.{World, outside}
 use Rattle.source_meaning.specs.Accesses.{access_at, access_live, access_in, access}
 use Rattle.flat_code.specs.World.{Ending as FlatEnding}
 use Rattle.flat_code.specs.Run.{refusal}
 use Rattle.injection.specs.Words.{word_in, word_of}
-use Rattle.injection.specs.Memory.{IsLive, IsAccount, AreLaidOut}
-use Rattle.injection.specs.Laws.{Found, AccessesAlike}
+use Rattle.injection.specs.Memory.{IsLive, AreLaidOut}
+use Rattle.injection.specs.Laws.{AccessesAlike}
 
 -- ---- The tests of an address
 
@@ -83,7 +83,6 @@ was_le : (a b : ℕ) → nat_le a b ≡ true → a ≤ b
 was_le a b h = grind (arith, nat_tests)
 
 module _ (g : ℕ) (wide : Width) (w : World) (two : 2 ≤ g) (k : ℕ) (o : Object) (l : IsLive w.objects k o) (p : IsPlaced g o.base o.exponent) where
-
   at_place : (i : ℕ) → AccessesAlike w (To k (pos i)) (size_of_width wide) (word_at o.base o.exponent (pos i)) (access_at (size_of_width wide) k o i w)
   at_place i = at_pad (nat_lt i (2 ^ o.exponent)) refl
     where
@@ -93,23 +92,30 @@ module _ (g : ℕ) (wide : Width) (w : World) (two : 2 ≤ g) (k : ℕ) (o : Obj
         where
           c : (c : ℕ) × (o.base ≡ 4 * c)
           c = fours o.base o.exponent (let least = p.least in omega arith) p.aligned
+
           test : refusal (o.base + i) (size_of_width wide) ≡ cond ((o.base + i) % size_of_width wide == 0) None (Some (FlatEnding.Trapped trap.Misaligned))
           test =
               let s : i < 2 ^ o.exponent = was_lt i (2 ^ o.exponent) e in
               let low = p.low in let high = p.high in
               refused_by (o.base + i) (size_of_width wide) (omega arith) (omega arith)
+
           at_rest : (t : Bool) → ((o.base + i) % size_of_width wide == 0) ≡ t → AccessesAlike w (To k (pos i)) (size_of_width wide) (o.base + i) (cond t (cond (nat_le (i + size_of_width wide) o.length) (Goes (k, i) w) (outside Padding w)) (Ends (Trapped trap.Misaligned) w))
           at_rest false q = (refl, test ∙ ap (λ t. cond t None (Some (FlatEnding.Trapped trap.Misaligned))) q)
           at_rest true q = at_length (nat_le (i + size_of_width wide) o.length) refl
             where
               at_length : (t : Bool) → nat_le (i + size_of_width wide) o.length ≡ t → AccessesAlike w (To k (pos i)) (size_of_width wide) (o.base + i) (cond t (Goes (k, i) w) (outside Padding w))
               at_length false z = refl
-              at_length true z = (refl, refl, record {
-                object = o;
-                live = l;
-                within = was_le (i + size_of_width wide) o.length z;
-                is = refl;
-                free = test ∙ ap (λ t. cond t None (Some (FlatEnding.Trapped trap.Misaligned))) q })
+              at_length true z = (
+                refl,
+                refl,
+                record {
+                  object = o;
+                  live = l;
+                  within = was_le (i + size_of_width wide) o.length z;
+                  is = refl;
+                  free = test ∙ ap (λ t. cond t None (Some (FlatEnding.Trapped trap.Misaligned))) q;
+                },
+              )
 
   at_offset : (z : ℤ) → AccessesAlike w (To k z) (size_of_width wide) (word_at o.base o.exponent z) (access_live (size_of_width wide) k o z w)
   at_offset (pos i) = at_place i

@@ -1,5 +1,5 @@
 -- Objects that keep their accounts keep the words of pointers, and all that is said by words.
-use Rattle.std.proofs.Common.{◌≡◌, ◌⊎◌, ℕ, ◌+◌, ◌/◌, ◌%◌, ◌^◌, ◌<◌, ◌≤◌, Bool, true, false, List, [], ◌∷◌, ◌++◌, length, Option, Some, None, slice_get, slice_set, ℤ, refl, sym, ap, ◌∙◌, subst, inl, inr, arith, true≢false}
+use Rattle.std.proofs.Common.{◌≡◌, ◌⊎◌, ℕ, ◌/◌, ◌%◌, ◌^◌, ◌<◌, ◌≤◌, false, List, [], ◌∷◌, ◌++◌, length, Option, Some, None, slice_get, refl, sym, ap, ◌∙◌, subst, inl, inr, arith, true≢false}
 use Rattle.std.proofs.lemmas.Option.{same_Some}
 use Rattle.std.proofs.lemmas.Bool.{cases_eq}
 use Rattle.marked_ptr.specs.Marked.{word_at}
@@ -14,8 +14,7 @@ use Rattle.source_meaning.specs.declared.values.Cell.TheVariants.{Byte, Part}
 use Rattle.source_meaning.specs.Objects.{Object, ended_in}
 use Rattle.source_meaning.specs.Worlds.{Mark, Line, Moved}
 use Rattle.flat_code.specs.World.{Words}
-use Rattle.flat_code.specs.Told as Told
-use Rattle.flat_code.specs.Told.Mark.{Begun, Pair}
+use Rattle.flat_code.specs.Told.Mark.{Begun}
 use Rattle.injection.specs.Words.{word_in, word_of, word_of_value, byte_of}
 use Rattle.injection.specs.Memory.{IsLive, IsPointerIn, IsPointer, IsValue, IsCell, SameValues}
 use Rattle.injection.specs.Trail.{SafeSites, pair_unless, image_trail, TrailIsNamed}
@@ -81,7 +80,8 @@ byte_kept g a b (Part k q) h f = ap (λ w. w / 256 ^ k % 256) (word_kept g a b q
 pub values_kept : (g n : ℕ) (a b : List Object) (values : ℕ → Value) (words : Words) → Accounted a b → SameValues g n a values words → SameValues g n b values words
 values_kept g n a b values words h s = record {
   each = λ i lt. s.each i lt ∙ sym (value_word_kept g a b (values i) h (s.formed i lt));
-  formed = λ i lt. value_kept g a b (values i) h (s.formed i lt) }
+  formed = λ i lt. value_kept g a b (values i) h (s.formed i lt);
+}
 
 pub named_kept : (g : ℕ) (a b : List Object) (marks : List Mark) → Accounted a b → TrailIsNamed g a marks → TrailIsNamed g b marks
 named_kept g a b [] h f = tt

@@ -1,7 +1,6 @@
 -- The blocks of the live objects.
-use Rattle.std.proofs.Common.{◌≡◌, ◌≢◌, ◌⊎◌, ℕ, zero, suc, ◌+◌, ◌-◌, ◌*◌, ◌/◌, ◌%◌, ◌^◌, ◌<◌, ◌≤◌, Bool, true, false, ◌&&◌, cond, nat_le, nat_lt, ◌==◌, List, [], ◌∷◌, ◌++◌, length, Option, Some, None, slice_get, slice_set, ℤ, refl, sym, ap, ◌∙◌, subst, inl, inr, arith, true≢false, pow_pos, eq-eqb, eqb-true, ne_eqb}
+use Rattle.std.proofs.Common.{◌≡◌, ◌≢◌, ◌⊎◌, ℕ, zero, suc, ◌+◌, ◌*◌, ◌^◌, ◌<◌, ◌≤◌, Bool, true, false, ◌&&◌, cond, nat_le, List, [], ◌∷◌, ◌++◌, Some, refl, sym, ap, ◌∙◌, subst, inl, inr, arith, true≢false, pow_pos, eq-eqb, ne_eqb}
 use Rattle.std.proofs.lemmas.Option.{same_Some, none-some}
-use Rattle.std.proofs.lemmas.Bool.{cases_eq, cases_lt}
 use Rattle.std.proofs.lemmas.Bool.Decides.{nat_tests}
 use Rattle.size_table.specs.Blocks.{Block, block_at, end_of, holds, MissEachOther, MissesAll, AreDisjoint, without}
 use Rattle.size_table.specs.Table.{byte_of}
@@ -55,7 +54,8 @@ first o os e = record { there = refl; live = e }
 pub laid_out_rest : (g : ℕ) (o : Object) (os : List Object) → AreLaidOut g (o ∷ os) → AreLaidOut g os
 laid_out_rest g o os h = record {
   accounts = λ k p e. h.accounts (suc k) p e;
-  apart = λ j k p q l r n. h.apart (suc j) (suc k) p q (later o os j p l) (later o os k q r) (λ e. n (omega arith)) }
+  apart = λ j k p q l r n. h.apart (suc j) (suc k) p q (later o os j p l) (later o os k q r) (λ e. n (omega arith));
+}
 
 free_rest : (o n : Object) (os : List Object) → IsFree (o ∷ os) n → IsFree os n
 free_rest o n os h = record { apart = λ k p l. h.apart (suc k) p (later o os k p l) }
@@ -85,6 +85,7 @@ among_live (p ∷ os) zero o l = at_flag p.live (ap (λ (x : Object). x.live) e 
   where
     e : p ≡ o
     e = same_Some _ _ l.there
+
     at_flag : (b : Bool) → b ≡ true → IsAmong (block_of o) (cond b (block_of p ∷ live_blocks os) (live_blocks os))
     at_flag true q = inl (ap block_of (sym e))
     at_flag false q = absurd (true≢false (sym q))

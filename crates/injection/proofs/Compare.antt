@@ -1,11 +1,10 @@
 -- Pointers compare as their words do.
-use Rattle.std.proofs.Common.{◌≡◌, ◌≢◌, ◌⊎◌, ℕ, zero, suc, ◌+◌, ◌^◌, ◌<◌, ◌≤◌, Bool, true, false, not, ◌&&◌, ◌==◌, cond, nat_lt, nat_le, List, Option, Some, None, slice_get, ℤ, pos, negsuc, refl, sym, ap, ◌∙◌, subst, inl, inr, arith, true≢false, eq-eqb, eqb-true, ne_eqb, Ordering}
+use Rattle.std.proofs.Common.{◌≡◌, ◌≢◌, ◌⊎◌, ℕ, Bool, true, false, not, ◌&&◌, ◌==◌, cond, nat_lt, nat_le, List, ℤ, pos, negsuc, refl, sym, ap, ◌∙◌, subst, inl, inr, arith, true≢false, eq-eqb, eqb-true, ne_eqb, Ordering}
 use Rattle.std.specs.Prelude.{int_lt, int_div, ◌-ℤ◌}
-use Rattle.std.proofs.lemmas.Option.{same_Some}
 use Rattle.std.proofs.lemmas.Bool.{cases_eq}
 use Rattle.std.proofs.lemmas.Bool.Decides.{nat_tests}
 use Rattle.std.specs.declared.cmp.Ordering.TheVariants.{Less, Equal, Greater}
-use Rattle.bb_words.specs.Answers.{Goes, Ends}
+use Rattle.bb_words.specs.Answers.{Goes}
 use Rattle.bb_words.specs.Numbers as numbers
 use Rattle.bb_words.specs.Steps.{flag}
 use Rattle.bb_words.specs.declared.steps.OrderOp.{OrderOp}
@@ -20,7 +19,7 @@ use Rattle.source_meaning.specs.declared.values.Value.TheVariants.{Num, Ptr}
 use Rattle.source_meaning.specs.declared.values.OutsideCause.TheVariants.{Dead, Across}
 use Rattle.source_meaning.specs.Objects.{Object, same_int, same_pointer}
 use Rattle.source_meaning.specs.Worlds.{World, Does, outside, is_sound}
-use Rattle.source_meaning.specs.Comparisons.{with_sound, comparing, same, within_one, is_ordered, ordered, elements_between, truth}
+use Rattle.source_meaning.specs.Comparisons.{comparing, within_one, is_ordered, truth}
 use Rattle.injection.specs.Words.{word_in, word_of, word_of_value}
 use Rattle.injection.specs.Memory.{IsLive, AreLaidOut, IsPointer, IsValue}
 use Rattle.injection.specs.Laws.{GivesAlike, is_in_order, ComparesAlike}
@@ -75,7 +74,6 @@ at_most : (a b : ℕ) → not (nat_lt b a) ≡ nat_le a b
 at_most a b = grind (arith, nat_tests)
 
 module _ (nulls : WordsAreNotNull) (g : ℕ) (w : World) (out : AreLaidOut g w.objects) where
-
   pub not_null : (k : ℕ) (z : ℤ) → IsInto g w.objects k z → word_of w.objects (To k z) ≢ 0
   not_null k z t e =
       nulls g t.object.base t.object.exponent z (out.accounts k t.object t.live.there).placed t.reach (sym (into_word g w.objects k z t) ∙ e)
@@ -90,7 +88,6 @@ module _ (nulls : WordsAreNotNull) (g : ℕ) (w : World) (out : AreLaidOut g w.o
       at true e = (refl, sym (ap not (ne_eqb (word_of w.objects (To k z)) 0 (not_null k z (sound_into g w k z f e)))))
 
 module _ (laws : MarkedLaws) (g : ℕ) (w : World) (out : AreLaidOut g w.objects) where
-
   -- the second pointer by the object of the first
   by_first : (j k : ℕ) (z : ℤ) → (s : Object) → IsLive w.objects j s → j ≡ k → (t : IsInto g w.objects k z) → IsInReach g s.exponent z × (word_of w.objects (To k z) ≡ word_at s.base s.exponent z)
   by_first j k z s l e t =
@@ -103,7 +100,7 @@ module _ (laws : MarkedLaws) (g : ℕ) (w : World) (out : AreLaidOut g w.objects
       tests_alike (same_int y z) (word_of w.objects (To j y)) (word_of w.objects (To k z))
       (λ h. into_word g w.objects j y s ∙ ap (word_at s.object.base s.object.exponent) (int_from y z h) ∙ sym r.1)
       (λ h. let q = laws.offsets g s.object.base s.object.exponent y z (out.accounts j s.object s.live.there).placed s.reach r.0 (sym (into_word g w.objects j y s) ∙ h ∙ r.1) in
-          subst (λ x. same_int y x ≡ true) q (int_same y))
+      subst (λ x. same_int y x ≡ true) q (int_same y))
 
   other_objects : (j k : ℕ) (y z : ℤ) → j ≢ k → IsInto g w.objects j y → IsInto g w.objects k z → false ≡ (word_of w.objects (To j y) == word_of w.objects (To k z))
   other_objects j k y z n s t =
@@ -175,4 +172,5 @@ module _ (laws : MarkedLaws) (g : ℕ) (w : World) (out : AreLaidOut g w.objects
         (λ j k y z eq er e s t. ap flag (order_alike o j k y z e s t ∙ ap (λ c. is_in_order o c (word_of w.objects (To k z))) (sym (ap (word_of_value w.objects) ev ∙ ap (word_of w.objects) eq)) ∙ ap (is_in_order o (word_of_value w.objects v)) (sym (ap (word_of_value w.objects) ex ∙ ap (word_of w.objects) er)))));
     differences = λ size. both_alike (Num (difference (word_of_value w.objects v) (word_of_value w.objects x) size)) (within_one (λ y z. numbers.word_of (int_div (y -ℤ z) (pos size)))) v x a b
         (λ q r ev ex fq fr sq sr. within_alike (λ y z. numbers.word_of (int_div (y -ℤ z) (pos size))) (difference (word_of_value w.objects v) (word_of_value w.objects x) size) q r fq fr sq sr
-        (λ j k y z eq er e s t. difference_alike size j k y z e s t ∙ ap (λ c. difference c (word_of w.objects (To k z)) size) (sym (ap (word_of_value w.objects) ev ∙ ap (word_of w.objects) eq)) ∙ ap (λ c. difference (word_of_value w.objects v) c size) (sym (ap (word_of_value w.objects) ex ∙ ap (word_of w.objects) er)))) }
+        (λ j k y z eq er e s t. difference_alike size j k y z e s t ∙ ap (λ c. difference c (word_of w.objects (To k z)) size) (sym (ap (word_of_value w.objects) ev ∙ ap (word_of w.objects) eq)) ∙ ap (λ c. difference (word_of_value w.objects v) c size) (sym (ap (word_of_value w.objects) ex ∙ ap (word_of w.objects) er))));
+  }

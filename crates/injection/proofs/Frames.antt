@@ -1,7 +1,7 @@
 -- Frames: their objects are made, and end.
-use Rattle.std.proofs.Common.{◌≡◌, ◌≢◌, ◌⊎◌, ℕ, zero, suc, ◌+◌, ◌-◌, ◌^◌, ◌<◌, ◌≤◌, Bool, true, false, ◌==◌, cond, List, [], ◌∷◌, ◌++◌, length, map, reverse, Option, Some, None, slice_get, refl, sym, ap, ◌∙◌, subst, inl, inr, arith, true≢false, pow_pos, eqb-true, append_assoc, length-append}
-use Rattle.std.proofs.lemmas.Option.{same_Some, none-some, slice_get_within}
-use Rattle.std.proofs.lemmas.Bool.{cases_eq, cases_lt}
+use Rattle.std.proofs.Common.{◌≡◌, ◌⊎◌, ℕ, zero, suc, ◌+◌, ◌^◌, ◌<◌, ◌≤◌, Bool, true, false, ◌==◌, cond, List, [], ◌∷◌, ◌++◌, length, reverse, Option, Some, None, slice_get, refl, sym, ap, ◌∙◌, subst, inl, inr, arith, pow_pos, eqb-true, length-append}
+use Rattle.std.proofs.lemmas.Option.{none-some, slice_get_within}
+use Rattle.std.proofs.lemmas.Bool.{cases_lt}
 use Rattle.std.proofs.lemmas.Grind.{reverse_onto}
 use Rattle.size_table.specs.declared.memory_map.TheConstants.{STACK_START, HEAP_START}
 use Rattle.size_table.specs.Blocks.{Block, block_at, without}
@@ -13,13 +13,13 @@ use Rattle.source_meaning.specs.Worlds.{World, made, ended, all_ended, live_bloc
 use Rattle.source_meaning.specs.Accounts.{object_of, all_made}
 use Rattle.flat_code.specs.World.{FWorld, Memory, zeroed}
 use Rattle.flat_code.specs.Accounts.{make, end, make_all, end_all}
-use Rattle.injection.specs.Memory.{IsLive, IsAccount, AreApart, AreLaidOut, IsFree, Injects}
+use Rattle.injection.specs.Memory.{IsLive, IsFree, Injects}
 use Rattle.injection.specs.Worlds.{Accounted, Stays, Since, Heights, InRegions}
 use Rattle.injection.specs.Laws.{exponents, frame_objects, IsLaid, Entered, Left}
 use Rattle.injection.proofs.Lists.{get_old}
 use Rattle.injection.proofs.Accounts.{accounted_same, accounted_then, accounted_more, accounted_ended, live_made, live_before, live_after}
 use Rattle.injection.proofs.Objects.{made_keeps, ended_keeps}
-use Rattle.injection.proofs.Blocks.{block_of, live_blocks_made, live_blocks_ended}
+use Rattle.injection.proofs.Blocks.{live_blocks_made, live_blocks_ended}
 use Rattle.injection.proofs.Regions.{heights_made, other_made, regions_ended}
 
 append_nothing : {A : Type 0} (xs : List A) → xs ++ [] ≡ xs
@@ -71,24 +71,26 @@ enters_from g start stack at [] w u laid low top h live clear heights regions = 
   blocks = live;
   objects = sym (append_nothing w.objects);
   heights = heights;
-  regions = regions }
+  regions = regions;
+}
 enters_from g start stack at (p ∷ ps) w u laid low top h live clear heights regions =
     let o = object_of Local start p in
     let high = laid_high g start (at + 2 ^ p.exponent) stack ps laid.2 in
     let free = free_there w.objects o at stack laid.0 high clear in
     let there = laid.0 in
     let rest = enters_from g start stack (at + 2 ^ p.exponent) ps (made o w) (make (block_at at p.exponent) u) laid.2 (omega (arith, low)) top
-        (subst (λ b. Injects g (w.objects ++ o ∷ []) (cleared w.cells (length w.objects)) (zeroed u.memory b (2 ^ p.exponent))) laid.0 (made_keeps g w.objects w.cells u.memory o laid.1 free h))
-        (ap (λ bs. bs ++ block_at at p.exponent ∷ []) live ∙ ap (λ b. live_blocks w.objects ++ block_at b p.exponent ∷ []) (sym laid.0) ∙ sym (live_blocks_made w.objects o refl))
-        (clear_made w.objects o at stack laid.0 clear)
-        (heights_made w.objects o start heights (omega (arith, low, there)))
-        (other_made w.objects o regions refl (omega (arith, there, high, top))) in
+    (subst (λ b. Injects g (w.objects ++ o ∷ []) (cleared w.cells (length w.objects)) (zeroed u.memory b (2 ^ p.exponent))) laid.0 (made_keeps g w.objects w.cells u.memory o laid.1 free h))
+    (ap (λ bs. bs ++ block_at at p.exponent ∷ []) live ∙ ap (λ b. live_blocks w.objects ++ block_at b p.exponent ∷ []) (sym laid.0) ∙ sym (live_blocks_made w.objects o refl))
+    (clear_made w.objects o at stack laid.0 clear)
+    (heights_made w.objects o start heights (omega (arith, low, there)))
+    (other_made w.objects o regions refl (omega (arith, there, high, top))) in
     record {
       keeps = rest.keeps;
       blocks = rest.blocks;
       objects = rest.objects ∙ append_next w.objects o (frame_objects start ps);
       heights = rest.heights;
-      regions = rest.regions }
+      regions = rest.regions;
+    }
 
 pub enters : (g start : ℕ) (plan : List Placed) (w : World) (u : FWorld) (stack : ℕ) → IsLaid g start start stack plan → STACK_START ≤ start → start ≤ stack
     → Injects g w.objects w.cells u.memory → u.live ≡ live_blocks w.objects → Heights w.objects stack → InRegions w.objects
@@ -124,14 +126,15 @@ ends_all g k [] w memory live h regions = record { keeps = h; blocks = refl; acc
 ends_all g k (o ∷ fs) w memory live h regions =
     let l = live.0 in
     let rest = ends_all g (suc k) fs (ended k w) memory
-        (subst (λ x. LiveFrom (ended_in w.objects k x) (suc k) fs) (sym l.there) (live_later w.objects (suc k) k o fs (omega arith) live.1))
-        (subst (λ x. Injects g (ended_in w.objects k x) (cleared w.cells k) memory) (sym l.there) (ended_keeps g w.objects w.cells memory k o l.there h))
-        (regions_ended w.objects k regions) in
+    (subst (λ x. LiveFrom (ended_in w.objects k x) (suc k) fs) (sym l.there) (live_later w.objects (suc k) k o fs (omega arith) live.1))
+    (subst (λ x. Injects g (ended_in w.objects k x) (cleared w.cells k) memory) (sym l.there) (ended_keeps g w.objects w.cells memory k o l.there h))
+    (regions_ended w.objects k regions) in
     record {
       keeps = rest.keeps;
       blocks = rest.blocks ∙ ap (taken_out fs) (ap (λ x. live_blocks (ended_in w.objects k x)) l.there ∙ live_blocks_ended g w.objects k o h.out l);
       accounted = accounted_then w.objects _ _ (accounted_ended w.objects k) rest.accounted;
-      regions = rest.regions }
+      regions = rest.regions;
+    }
 
 -- what lives once one has ended
 ended_live : (os : List Object) (k j : ℕ) (p : Object) → IsLive (ended_in os k (slice_get os k)) j p → IsLive os j p × (j ≡ k → ⊥)
@@ -215,10 +218,11 @@ frame_live : (g start at stack : ℕ) (plan : List Placed) (xs : List Object) �
 frame_live g start at stack [] xs laid = tt
 frame_live g start at stack (p ∷ ps) xs laid =
     let o = object_of Local start p in
-    let rest = frame_live g start (at + 2 ^ p.exponent) stack ps (xs ++ o ∷ []) laid.2 in
-    (record { there = get_next xs o (frame_objects start ps); live = refl },
-     subst (λ n. LiveFrom (xs ++ o ∷ frame_objects start ps) n (frame_objects start ps)) (length_next xs o)
-     (subst (λ os. LiveFrom os (length (xs ++ o ∷ [])) (frame_objects start ps)) (append_next xs o (frame_objects start ps)) rest))
+    let rest = frame_live g start (at + 2 ^ p.exponent) stack ps (xs ++ o ∷ []) laid.2 in (
+      record { there = get_next xs o (frame_objects start ps); live = refl },
+      subst (λ n. LiveFrom (xs ++ o ∷ frame_objects start ps) n (frame_objects start ps)) (length_next xs o)
+          (subst (λ os. LiveFrom os (length (xs ++ o ∷ [])) (frame_objects start ps)) (append_next xs o (frame_objects start ps)) rest),
+    )
 
 frame_low : (g start at stack k : ℕ) (plan : List Placed) (os ps : List Object) → stack ≤ HEAP_START → IsLaid g start at stack plan → Stays os ps → LiveFrom os k (frame_objects start plan) → LiveFrom ps k (frame_objects start plan)
 frame_low g start at stack k [] os ps top laid stays live = tt
@@ -242,15 +246,18 @@ exits g start stack plan caller w u laid top accounted stays since h live region
   accounted = accounted_then caller _ _ (accounted_more caller (frame_objects start plan)) (accounted_then (caller ++ (frame_objects start plan)) _ _ accounted ending.accounted);
   stays = record { by = λ j p l low. all_on (length plan) (length caller) w j p (slice_get_within caller j p l.there) (stays.by j p (record { there = get_old caller (frame_objects start plan) j p l.there; live = l.live }) low) };
   since = record { by = λ j p l. from j p (all_before (length plan) (length caller) w j p l) };
-  regions = ending.regions }
+  regions = ending.regions;
+}
   where
     ending : Ending g (frame_objects start plan) w (all_ended (length plan) (length caller) w) u.memory
     ending = subst (λ n. Ending g (frame_objects start plan) w (all_ended n (length caller) w) u.memory) (frame_length start plan)
         (ends_all g (length caller) (frame_objects start plan) w u.memory (frame_low g start start stack (length caller) plan _ w.objects top laid stays (frame_live g start start stack plan caller laid)) h regions)
+
     old : (j : ℕ) (p : Object) → IsLive (caller ++ frame_objects start plan) j p → (j < length caller) ⊎ (length caller + length plan ≤ j) → IsLive caller j p
     old j p l (inl lt) = record { there = get_front caller (frame_objects start plan) j p l.there lt; live = l.live }
     old j p l (inr ge) =
         let within = slice_get_within (caller ++ frame_objects start plan) j p l.there in
         absurd (omega (arith, within, ge, length-append caller (frame_objects start plan), frame_length start plan))
+
     from : (j : ℕ) (p : Object) → IsLive w.objects j p × ((j < length caller) ⊎ (length caller + length plan ≤ j)) → IsLive caller j p ⊎ (HEAP_START ≤ p.base)
     from j p r = elim (since.by j p r.0) [ inl l ↦ inl (old j p l r.1) | inr high ↦ inr high ]

@@ -1,16 +1,11 @@
 -- The layout of a frame, as objects and as blocks.
-use Rattle.std.proofs.Common.{◌≡◌, ◌≢◌, ◌⊎◌, ℕ, zero, suc, ◌+◌, ◌-◌, ◌*◌, ◌/◌, ◌%◌, ◌^◌, ◌<◌, ◌≤◌, Bool, true, false, ◌==◌, cond, nat_lt, List, [], ◌∷◌, ◌++◌, refl, sym, ap, ◌∙◌, subst, inl, inr, arith, true≢false, pow_pos, eqb-true}
+use Rattle.std.proofs.Common.{◌≡◌, ℕ, zero, suc, ◌+◌, ◌-◌, ◌*◌, ◌/◌, ◌%◌, ◌^◌, ◌<◌, ◌≤◌, Bool, true, false, ◌==◌, cond, nat_lt, List, [], ◌∷◌, ◌++◌, refl, sym, ap, ◌∙◌, subst, arith, pow_pos, eqb-true}
 use Rattle.std.proofs.lemmas.Bool.Decides.{nat_tests}
 use Rattle.std.proofs.lemmas.Nat.{pow-add, mod-mul-add, div-add-mod'}
-use Rattle.marked_ptr.specs.Laws.{IsPlaced}
-use Rattle.size_table.specs.declared.memory_map.TheConstants.{STACK_START, HEAP_START, MOST_BYTES}
+use Rattle.size_table.specs.declared.memory_map.TheConstants.{STACK_START, HEAP_START}
 use Rattle.size_table.specs.Pads.{exponent_of, ExponentIsLeast}
-use Rattle.block_layout.specs.Layout.{Item, Placed, pad, padded_to, declining, placed_from, layout, total_of, alignment_of, stack_under}
-use Rattle.source_meaning.specs.declared.values.ObjectKind.TheVariants.{Local}
-use Rattle.source_meaning.specs.Accounts.{object_of}
-use Rattle.flat_code.specs.Accounts as accounts
+use Rattle.block_layout.specs.Layout.{Item, pad, padded_to, declining, placed_from, layout, total_of, alignment_of}
 use Rattle.flat_code.specs.Accounts.{frame_size, alignment}
-use Rattle.injection.specs.Memory.{IsAccount}
 use Rattle.injection.specs.Laws.{exponents, IsLaid, AreSmall, FramesAlike}
 
 size_of_placed : (g offset : ℕ) (items : List Item) → frame_size (exponents (placed_from g offset items)) ≡ total_of g items
@@ -47,7 +42,6 @@ below_step g m (i ∷ is) =
     by false = refl
 
 module _ (exponents_least : ExponentIsLeast) (g : ℕ) (one : 1 ≤ g) (small : g ≤ 24) where
-
   none_below : (items : List Item) → AreSmall items → below g (g + 0) items ≡ 0
   none_below [] s = refl
   none_below (i ∷ is) s =
@@ -126,12 +120,14 @@ module _ (exponents_least : ExponentIsLeast) (g : ℕ) (one : 1 ≤ g) (small : 
       let k = c * 2 ^ (m - e) in
       let here = at_multiple c m e (start + offset) d.1 is in
       let next : start + (offset + 2 ^ e) ≡ (k + 1) * 2 ^ e = (let q : start + (offset + 2 ^ e) ≡ start + offset + 2 ^ e = omega arith in q) ∙ ap (λ x. x + 2 ^ e) here ∙ product_next k (2 ^ e) in
-      let one_later : start + (offset + 2 ^ e) ≡ start + offset + 2 ^ e = omega arith in
-      (refl,
-       record {
-         placed = record { slot = one; least = d.0; most = d.2; aligned = multiple_rest k (2 ^ e) (start + offset) (pow_pos e) here; low = omega (arith, low); high = omega (arith, within, high) };
-         fits = d.3 },
-       subst (λ a. IsLaid g start a top (placed_from g (offset + 2 ^ e) rest)) one_later (laid_from start (offset + 2 ^ e) top (k + 1) e rest next d.4 low (omega (arith, within)) high))
+      let one_later : start + (offset + 2 ^ e) ≡ start + offset + 2 ^ e = omega arith in (
+        refl,
+        record {
+          placed = record { slot = one; least = d.0; most = d.2; aligned = multiple_rest k (2 ^ e) (start + offset) (pow_pos e) here; low = omega (arith, low); high = omega (arith, within, high) };
+          fits = d.3;
+        },
+        subst (λ a. IsLaid g start a top (placed_from g (offset + 2 ^ e) rest)) one_later (laid_from start (offset + 2 ^ e) top (k + 1) e rest next d.4 low (omega (arith, within)) high),
+      )
 
   first_declines : (m : ℕ) (items : List Item) → Declines m items → Declines (alignment_of g (placed_from g 0 items)) items
   first_declines m [] d = tt
@@ -150,10 +146,11 @@ module _ (exponents_least : ExponentIsLeast) (g : ℕ) (one : 1 ≤ g) (small : 
       let a = alignment_of g (placed_from g 0 order) in
       let c = (stack - total_of g items) / 2 ^ a in
       let room = room_under stack (total_of g items) (2 ^ a) c start is (quotient_under (stack - total_of g items) (2 ^ a)) low in
-      let same : start + 0 ≡ start = omega arith in
-      (omega (arith, room),
-       subst (λ x. IsLaid g start x stack (placed_from g 0 order)) same
-       (laid_from start 0 stack c a order (same ∙ is) (first_declines 24 order d) low (omega (arith, room, total)) top))
+      let same : start + 0 ≡ start = omega arith in (
+        omega (arith, room),
+        subst (λ x. IsLaid g start x stack (placed_from g 0 order)) same
+            (laid_from start 0 stack c a order (same ∙ is) (first_declines 24 order d) low (omega (arith, room, total)) top),
+      )
 
   pub frames_alike_at : (stack : ℕ) (items : List Item) → stack ≤ HEAP_START → AreSmall items → FramesAlike g stack items
   unfolding layout
@@ -166,7 +163,8 @@ module _ (exponents_least : ExponentIsLeast) (g : ℕ) (one : 1 ≤ g) (small : 
             ap (λ n. (stack - n) / 2 ^ alignment g (exponents (placed_from g 0 order)) * 2 ^ alignment g (exponents (placed_from g 0 order))) (size_of_placed g 0 order ∙ total)
             ∙ ap (λ a. (stack - total_of g items) / 2 ^ a * 2 ^ a) (alignment_of_placed g 0 order);
         under = λ low. (frame_placed stack items order top d total _ refl low).0;
-        laid = λ low. (frame_placed stack items order top d total _ refl low).1 }
+        laid = λ low. (frame_placed stack items order top d total _ refl low).1;
+      }
 
 pub frames_alike : ExponentIsLeast → (g stack : ℕ) (items : List Item) → 1 ≤ g → g ≤ 24 → stack ≤ HEAP_START → AreSmall items → FramesAlike g stack items
 frames_alike exponents_least g stack items one small top s = frames_alike_at exponents_least g one small stack items top s

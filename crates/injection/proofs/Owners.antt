@@ -1,17 +1,15 @@
 -- The slots that own the words of pointers, and the moves of those words.
-use Rattle.std.proofs.Common.{◌≡◌, ◌≢◌, ◌⊎◌, ℕ, zero, suc, ◌+◌, ◌*◌, ◌-◌, ◌/◌, ◌%◌, ◌^◌, ◌<◌, ◌≤◌, Bool, true, false, cond, ◌&&◌, ◌==◌, nat_lt, nat_le, List, [], ◌∷◌, Option, Some, None, slice_get, ℤ, pos, negsuc, ◌+ℤ◌, refl, sym, ap, ◌∙◌, subst, inl, inr, arith, pow_pos, eq-eqb}
+use Rattle.std.proofs.Common.{◌≡◌, ◌⊎◌, ℕ, ◌+◌, ◌*◌, ◌-◌, ◌/◌, ◌^◌, ◌<◌, ◌≤◌, Bool, true, false, cond, ◌&&◌, nat_lt, nat_le, List, [], ◌∷◌, Option, Some, None, slice_get, ℤ, pos, negsuc, ◌+ℤ◌, refl, sym, ap, ◌∙◌, subst, inl, inr, arith, pow_pos}
 use Rattle.std.proofs.lemmas.Option.{same_Some, none-some}
-use Rattle.std.proofs.lemmas.Bool.{cases_lt}
 use Rattle.std.proofs.lemmas.Bool.Decides.{nat_tests}
-use Rattle.std.proofs.lemmas.Nat.{div-mul-add, pow_below}
+use Rattle.std.proofs.lemmas.Nat.{div-mul-add}
 use Rattle.bb_words.specs.Answers.{Goes, Ends}
 use Rattle.bb_words.specs.declared.kinds.ReportKind.TheVariants.{Bounds}
 use Rattle.bb_words.specs.Numbers.{signed}
-use Rattle.marked_ptr.specs.Marked.{word_at, owner_slot, in_memory, half_slot, moved, moved_from, inside, outside}
-use Rattle.marked_ptr.specs.Laws.{IsPlaced, IsInReach, OwnedBy, OwnerIsBlock, MovesAreOffsets, answer_at}
-use Rattle.marked_ptr.specs.declared.answer.MoveAnswer.{MoveAnswer}
+use Rattle.marked_ptr.specs.Marked.{word_at, owner_slot, in_memory, moved, inside, outside}
+use Rattle.marked_ptr.specs.Laws.{IsInReach, OwnerIsBlock, MovesAreOffsets, answer_at}
 use Rattle.marked_ptr.specs.declared.answer.MoveAnswer.TheVariants.{Report}
-use Rattle.size_table.specs.Blocks.{Block, block_at, holds, end_of}
+use Rattle.size_table.specs.Blocks.{holds}
 use Rattle.size_table.specs.Table.{byte_of}
 use Rattle.source_meaning.specs.declared.values.Pointer.{Pointer}
 use Rattle.source_meaning.specs.declared.values.Pointer.TheVariants.{Null, To}
@@ -22,8 +20,8 @@ use Rattle.source_meaning.specs.Worlds as worlds
 use Rattle.source_meaning.specs.Worlds.{World, Does, Moved, noted, live_blocks}
 use Rattle.source_meaning.specs.Moves.{is_within, move_in, move}
 use Rattle.injection.specs.Words.{word_in, word_of}
-use Rattle.injection.specs.Memory.{IsLive, IsAccount, AreLaidOut, IsPointerIn, IsPointer}
-use Rattle.injection.specs.Laws.{IsOwned, Arrives, MovesAlike}
+use Rattle.injection.specs.Memory.{IsLive, AreLaidOut, IsPointerIn, IsPointer}
+use Rattle.injection.specs.Laws.{IsOwned, MovesAlike}
 use Rattle.injection.proofs.Blocks.{byte_among, disjoint_live, among_live, laid_out_rest, block_of}
 
 zero_over : (p : ℕ) → 0 < p → 0 / p ≡ 0
@@ -36,6 +34,7 @@ nothing_low g (o ∷ os) out = at_flag o.live (out.accounts 0 o refl).placed.low
   where
     missed : (b x y n : ℕ) → 10485760 ≤ b → x ≡ 0 → (nat_le b x && nat_le y n) ≡ false
     missed b x y n low e = grind (arith, nat_tests)
+
     at_flag : (t : Bool) → 10485760 ≤ o.base → byte_of g (live_blocks os) 0 ≡ 0 → byte_of g (cond t (block_of o ∷ live_blocks os) (live_blocks os)) 0 ≡ 0
     at_flag false h k = k
     at_flag true h k =
@@ -49,6 +48,7 @@ byte_small g (o ∷ os) slot out = at_flag o.live (out.accounts 0 o refl).placed
     at_held : (t : Bool) → o.exponent ≤ 24 → byte_of g (live_blocks os) slot ≤ 24 → cond t o.exponent (byte_of g (live_blocks os) slot) ≤ 24
     at_held true h k = h
     at_held false h k = k
+
     at_flag : (t : Bool) → o.exponent ≤ 24 → byte_of g (live_blocks os) slot ≤ 24 → byte_of g (cond t (block_of o ∷ live_blocks os) (live_blocks os)) slot ≤ 24
     at_flag false h k = k
     at_flag true h k = at_held (holds g (block_of o) slot) h k
@@ -63,12 +63,12 @@ in_memory_is g (Some s) number h = at (nat_lt s (2 ^ (25 - g))) refl h
   where
     below : (n p : ℕ) → nat_lt n p ≡ true → n < p
     below n p e = grind (arith, nat_tests)
+
     at : (t : Bool) → nat_lt s (2 ^ (25 - g)) ≡ t → cond t (Some s) None ≡ Some number → InMemory g (Some s) number
     at false e k = absurd (none-some _ k)
     at true e k = record { is = k; small = subst (λ n. n < 2 ^ (25 - g)) (same_Some _ _ k) (below s (2 ^ (25 - g)) e) }
 
 module _ (owners : OwnerIsBlock) where
-
   -- the word of a pointer to an object that there is or was
   object_owned : (g : ℕ) (os : List Object) (k : ℕ) (o : Object) (z : ℤ) → AreLaidOut g os → slice_get os k ≡ Some o → IsInReach g o.exponent z → IsOwned g os (word_at o.base o.exponent z)
   object_owned g os k o z out e r =
@@ -96,7 +96,7 @@ module _ (owners : OwnerIsBlock) where
       let same : own.number ≡ slot = same_Some _ _ (sym m.is ∙ e) in
       ap (byte_of g (live_blocks os)) (sym same)
       ∙ byte_among g (block_of o) (live_blocks os) own.number (disjoint_live g os out) (among_live os k o l)
-          (held o.base (2 ^ g * own.number) (2 ^ g * own.number + 2 ^ g) (o.base + 2 ^ o.exponent) own.low own.high)
+      (held o.base (2 ^ g * own.number) (2 ^ g * own.number + 2 ^ g) (o.base + 2 ^ o.exponent) own.low own.high)
     where
       held : (b x y n : ℕ) → b ≤ x → y ≤ n → (nat_le b x && nat_le y n) ≡ true
       held b x y n lo hi = grind (arith, nat_tests)
@@ -141,7 +141,6 @@ refused g base e (pos n) h =
     ∙ ap (λ t. cond t (outside (word_at base e (pos n))) Report) h
 
 module _ (owners : OwnerIsBlock) (offsets : MovesAreOffsets) (g site line d slot : ℕ) (w : World) (out : AreLaidOut g w.objects) (small : d < 2 ^ 32) where
-
   live_moves : (k : ℕ) (z : ℤ) (o : Object) → IsLive w.objects k o → IsInReach g o.exponent z → owner_slot g (word_at o.base o.exponent z) ≡ Some slot
       → MovesAlike g site line w (To k z) (moved g (word_at o.base o.exponent z) d (byte_of g (live_blocks w.objects) slot)) (cond (is_within g o.exponent (z +ℤ signed d)) (Goes (To k (z +ℤ signed d)) (noted (Moved site (To k z) (To k (z +ℤ signed d))) w)) (Ends (Reported Bounds line) w))
   live_moves k z o l r own = at (is_within g o.exponent (z +ℤ signed d)) refl
@@ -150,13 +149,16 @@ module _ (owners : OwnerIsBlock) (offsets : MovesAreOffsets) (g site line d slot
       answers =
           ap (moved g (word_at o.base o.exponent z) d) (object_byte owners g w.objects k o z slot out l r own)
           ∙ offsets g o.base o.exponent d z (out.accounts k o l.there).placed r small
+
       word : word_of w.objects (To k (z +ℤ signed d)) ≡ word_at o.base o.exponent (z +ℤ signed d)
       word = ap (λ x. word_in x (z +ℤ signed d)) l.there
+
       at : (t : Bool) → is_within g o.exponent (z +ℤ signed d) ≡ t → MovesAlike g site line w (To k z) (moved g (word_at o.base o.exponent z) d (byte_of g (live_blocks w.objects) slot)) (cond t (Goes (To k (z +ℤ signed d)) (noted (Moved site (To k z) (To k (z +ℤ signed d))) w)) (Ends (Reported Bounds line) w))
       at true e = record {
         world = refl;
         formed = subst (λ x. IsPointerIn g x (z +ℤ signed d)) (sym l.there) (in_reach g o.exponent (z +ℤ signed d) e);
-        word = elim (lands g o.base o.exponent (z +ℤ signed d) e) [ inl a ↦ inl (answers ∙ a ∙ ap inside (sym word)) | inr a ↦ inr (answers ∙ a ∙ ap outside (sym word)) ] }
+        word = elim (lands g o.base o.exponent (z +ℤ signed d) e) [ inl a ↦ inl (answers ∙ a ∙ ap inside (sym word)) | inr a ↦ inr (answers ∙ a ∙ ap outside (sym word)) ];
+      }
       at false e = (refl, refl, refl, answers ∙ refused g o.base o.exponent (z +ℤ signed d) e)
 
   null_moves : owner_slot g 0 ≡ Some slot → moved g 0 d (byte_of g (live_blocks w.objects) slot) ≡ Report

@@ -1,13 +1,12 @@
 -- Where objects lie: above the free part of the data stack, and those of the heap in the heap.
-use Rattle.std.proofs.Common.{◌≡◌, ◌≢◌, ◌⊎◌, ℕ, zero, suc, ◌+◌, ◌-◌, ◌%◌, ◌^◌, ◌<◌, ◌≤◌, Bool, true, false, ◌&&◌, ◌==◌, cond, nat_lt, nat_le, List, [], ◌∷◌, ◌++◌, length, Option, Some, None, slice_get, ℤ, pos, negsuc, refl, sym, ap, ◌∙◌, subst, inl, inr, arith, true≢false, pow_pos, eq-eqb, eqb-true, ne_eqb}
-use Rattle.std.proofs.lemmas.Option.{same_Some, none-some}
-use Rattle.std.proofs.lemmas.Bool.{cases_eq, cases_lt}
+use Rattle.std.proofs.Common.{◌≡◌, ◌≢◌, ◌⊎◌, ℕ, suc, ◌+◌, ◌^◌, ◌<◌, ◌≤◌, Bool, true, false, ◌&&◌, ◌==◌, cond, nat_lt, nat_le, List, [], ◌∷◌, ◌++◌, Option, Some, None, slice_get, ℤ, pos, negsuc, refl, sym, ap, ◌∙◌, subst, inl, inr, arith, true≢false, pow_pos, eq-eqb, ne_eqb}
+use Rattle.std.proofs.lemmas.Bool.{cases_eq}
 use Rattle.std.proofs.lemmas.Bool.Decides.{nat_tests}
 use Rattle.bb_words.specs.Answers.{Goes, Ends}
 use Rattle.bb_words.specs.declared.kinds.ReportKind.TheVariants as report
 use Rattle.marked_ptr.specs.Marked.{word_at}
-use Rattle.marked_ptr.specs.Laws.{IsPlaced, IsInReach, WordsAreNotNull}
-use Rattle.size_table.specs.declared.memory_map.TheConstants.{HEAP_START, STACK_START, MOST_BYTES}
+use Rattle.marked_ptr.specs.Laws.{IsInReach, WordsAreNotNull}
+use Rattle.size_table.specs.declared.memory_map.TheConstants.{HEAP_START, MOST_BYTES}
 use Rattle.size_table.specs.Blocks.{Block, block_at, MissEachOther, MissesAll, AreDisjoint}
 use Rattle.size_table.specs.Pads.{exponent_of, ExponentIsLeast}
 use Rattle.buddy_heap.specs.Places.{IsRoom, IsPlaceOf, place_of, PlaceIsLeast, OnePlace, block_from}
@@ -21,9 +20,9 @@ use Rattle.source_meaning.specs.Worlds.{World, outside, ended, is_heap, live_blo
 use Rattle.source_meaning.specs.Accounts.{freed_in, free}
 use Rattle.flat_code.specs.Accounts.{heap_block}
 use Rattle.injection.specs.Words.{word_in, word_of}
-use Rattle.injection.specs.Memory.{IsLive, IsAccount, AreApart, AreLaidOut, IsFree, IsPointerIn, IsPointer}
+use Rattle.injection.specs.Memory.{IsLive, AreLaidOut, IsPointerIn, IsPointer}
 use Rattle.injection.specs.Worlds.{Since, Heights, InRegions}
-use Rattle.injection.specs.Laws.{heap_object, HasPlace, Frees, FreesAlike}
+use Rattle.injection.specs.Laws.{HasPlace, FreesAlike}
 use Rattle.injection.proofs.Accounts.{live_made, live_before}
 use Rattle.injection.proofs.Cells.{int_from, and_left, and_right}
 use Rattle.injection.proofs.Stores.{same_object}
@@ -34,22 +33,26 @@ use Rattle.injection.proofs.Blocks.{IsAmong, block_of, misses_among, among_live,
 pub heights_made : (os : List Object) (o : Object) (stack : ℕ) → Heights os stack → stack ≤ o.base → Heights (os ++ o ∷ []) stack
 heights_made os o stack h low = record {
   by = λ k p l. elim (live_made os o k p l) [ inl m ↦ h.by k p m | inr r ↦ inr (subst (λ (x : Object). stack ≤ x.base) (sym r.1) low) ];
-  top = h.top }
+  top = h.top;
+}
 
 pub heights_since : (before after : List Object) (stack : ℕ) → Heights before stack → Since before after → Heights after stack
 heights_since before after stack h s = record {
   by = λ k o l. elim (s.by k o l) [ inl m ↦ h.by k o m | inr r ↦ inr (let t = h.top in omega (arith, r, t)) ];
-  top = h.top }
+  top = h.top;
+}
 
 pub heap_made : (os : List Object) (o : Object) → InRegions os → is_heap o.kind ≡ true → HEAP_START ≤ o.base → InRegions (os ++ o ∷ [])
 heap_made os o h heap low = record {
   heap = λ k p l e. elim (live_made os o k p l) [ inl m ↦ h.heap k p m e | inr r ↦ subst (λ (x : Object). HEAP_START ≤ x.base) (sym r.1) low ];
-  others = λ k p l e. elim (live_made os o k p l) [ inl m ↦ h.others k p m e | inr r ↦ absurd (true≢false (sym heap ∙ ap (λ (x : Object). is_heap x.kind) (sym r.1) ∙ e)) ] }
+  others = λ k p l e. elim (live_made os o k p l) [ inl m ↦ h.others k p m e | inr r ↦ absurd (true≢false (sym heap ∙ ap (λ (x : Object). is_heap x.kind) (sym r.1) ∙ e)) ];
+}
 
 pub other_made : (os : List Object) (o : Object) → InRegions os → is_heap o.kind ≡ false → o.base + 2 ^ o.exponent ≤ HEAP_START → InRegions (os ++ o ∷ [])
 other_made os o h other high = record {
   heap = λ k p l e. elim (live_made os o k p l) [ inl m ↦ h.heap k p m e | inr r ↦ absurd (true≢false (sym e ∙ ap (λ (x : Object). is_heap x.kind) r.1 ∙ other)) ];
-  others = λ k p l e. elim (live_made os o k p l) [ inl m ↦ h.others k p m e | inr r ↦ subst (λ (x : Object). x.base + 2 ^ x.exponent ≤ HEAP_START) (sym r.1) high ] }
+  others = λ k p l e. elim (live_made os o k p l) [ inl m ↦ h.others k p m e | inr r ↦ subst (λ (x : Object). x.base + 2 ^ x.exponent ≤ HEAP_START) (sym r.1) high ];
+}
 
 pub regions_ended : (os : List Object) (k : ℕ) → InRegions os → InRegions (ended_in os k (slice_get os k))
 regions_ended os k h = at (slice_get os k) refl
@@ -58,14 +61,16 @@ regions_ended os k h = at (slice_get os k) refl
     at None e = h
     at (Some o) e = record {
       heap = λ j p l f. h.heap j p (live_before os k o j p e l).0 f;
-      others = λ j p l f. h.others j p (live_before os k o j p e l).0 f }
+      others = λ j p l f. h.others j p (live_before os k o j p e l).0 f;
+    }
 
 -- ---- Places in the heap
 
 rest_regions : (o : Object) (os : List Object) → InRegions (o ∷ os) → InRegions os
 rest_regions o os h = record {
   heap = λ k p l e. h.heap (suc k) p (record { there = l.there; live = l.live }) e;
-  others = λ k p l e. h.others (suc k) p (record { there = l.there; live = l.live }) e }
+  others = λ k p l e. h.others (suc k) p (record { there = l.there; live = l.live }) e;
+}
 
 misses_heap : (b : Block) (os : List Object) → MissesAll b (live_blocks os) → MissesAll b (heap_blocks os)
 misses_heap b [] m = tt
@@ -101,11 +106,14 @@ places_free least one exponents g n os slot small most h = record {
   heap = λ base e. (room base e).low;
   account = λ base e. record {
     placed = record { slot = slot; least = (exponents g n small most).slot; most = below; aligned = (room base e).aligned; low = (let l = (room base e).low in omega (arith, l)); high = (room base e).high };
-    fits = (exponents g n small most).fits };
-  free = λ base e. record { apart = λ k o l. misses_among (block_at base (exponent_of g n)) (block_of o) (live_blocks os) (room base e).clear (among_live os k o l) } }
+    fits = (exponents g n small most).fits;
+  };
+  free = λ base e. record { apart = λ k o l. misses_among (block_at base (exponent_of g n)) (block_of o) (live_blocks os) (room base e).clear (among_live os k o l) };
+}
   where
     below : exponent_of g n ≤ 24
     below = (exponents g n small most).least 24 small most
+
     room : (base : ℕ) → place_of (live_blocks os) (exponent_of g n) ≡ Some base → IsRoom (live_blocks os) (exponent_of g n) base
     room base e = (subst (IsPlaceOf (live_blocks os) (exponent_of g n)) e (least (live_blocks os) (exponent_of g n) below)).0
 
@@ -140,12 +148,12 @@ none_unless at bs h = by (nat_le 16777216 at) refl
   where
     was : (a b : ℕ) → nat_le a b ≡ true → a ≤ b
     was a b e = grind (arith, nat_tests)
+
     by : (t : Bool) → nat_le 16777216 at ≡ t → cond t (block_from at bs) None ≡ None
     by false e = refl
     by true e = h (was 16777216 at e)
 
 module _ (nulls : WordsAreNotNull) (g line : ℕ) (w : World) (out : AreLaidOut g w.objects) (h : InRegions w.objects) where
-
   -- no live block begins at the word, unless the pointer is to the start of an object of the heap
   nothing_begins : (k : ℕ) (z : ℤ) (o : Object) → IsLive w.objects k o → IsInReach g o.exponent z → (is_heap o.kind && same_int z (pos 0)) ≡ false → HEAP_START ≤ word_at o.base o.exponent z → (j : ℕ) (p : Object) → IsLive w.objects j p → p.base ≢ word_at o.base o.exponent z
   nothing_begins k (negsuc n) o l r t low j p m e =
@@ -155,14 +163,17 @@ module _ (nulls : WordsAreNotNull) (g line : ℕ) (w : World) (out : AreLaidOut 
     where
       was : (a b : ℕ) → nat_lt a b ≡ true → a < b
       was a b q = grind (arith, nat_tests)
+
       first : (s : Bool) → is_heap o.kind ≡ s → n ≡ 0 → (s && (n == 0)) ≡ false → HEAP_START ≤ o.base + n → ⊥
       first true f z q low' = true≢false (sym (eq-eqb n 0 z) ∙ q)
       first false f z q low' = let top = h.others k o l f in let pp = pow_pos o.exponent in omega (arith, top, z, low', pp)
+
       inside : n < 2 ^ o.exponent → HEAP_START ≤ o.base + n → p.base ≡ o.base + n → (j ≡ k) ⊎ (j ≡ k → ⊥) → ⊥
       inside lt low' e' (inl q) =
           let b = ap (λ (x : Object). x.base) (same_object w.objects j k p o m l q) in
           first (is_heap o.kind) refl (omega (arith, b, e')) t low'
       inside lt low' e' (inr q) = let apart = out.apart j k p o m l q in let pp = pow_pos p.exponent in omega (arith, apart, lt, e', pp)
+
       by : (s : Bool) → nat_lt n (2 ^ o.exponent) ≡ s → HEAP_START ≤ cond s (o.base + n) (2147483648 + (o.base + n)) → p.base ≡ cond s (o.base + n) (2147483648 + (o.base + n)) → ⊥
       by true q low' e' = inside (was n (2 ^ o.exponent) q) low' e' (cases_eq j k)
       by false q low' e' = let high = (out.accounts j p m.there).placed.high in omega (arith, high, e')
@@ -172,27 +183,33 @@ module _ (nulls : WordsAreNotNull) (g line : ℕ) (w : World) (out : AreLaidOut 
     where
       not_null : word_at o.base o.exponent z ≢ 0
       not_null = nulls g o.base o.exponent z (out.accounts k o l.there).placed r
+
       start : (b e : ℕ) → word_at b e (pos 0) ≡ b
       start b e = at (nat_lt 0 (2 ^ e)) (yes 0 (2 ^ e) (pow_pos e))
         where
           yes : (a c : ℕ) → a < c → nat_lt a c ≡ true
           yes a c q = grind (arith, nat_tests)
+
           at : (s : Bool) → s ≡ true → cond s (b + 0) (2147483648 + (b + 0)) ≡ b
           at true q = omega arith
           at false q = absurd (true≢false (sym q))
+
       by : (t : Bool) → (is_heap o.kind && same_int z (pos 0)) ≡ t → FreesAlike line w (word_at o.base o.exponent z) (cond t (Goes (Num 0) (ended k w)) (Ends (Reported report.BadFree line) w))
       by true e =
           let zero_offset : z ≡ pos 0 = int_from z (pos 0) (and_right (is_heap o.kind) _ e) in
           let base : word_at o.base o.exponent z ≡ o.base = ap (word_at o.base o.exponent) zero_offset ∙ start o.base o.exponent in
-          let low = h.heap k o l (and_left (is_heap o.kind) _ e) in
-          (refl, inr (record {
-            number = k;
-            object = o;
-            live = l;
-            world = refl;
-            not_null = not_null;
-            base = base;
-            block = ap (λ a. heap_block a (live_blocks w.objects)) base ∙ in_heap o.base (live_blocks w.objects) _ (from_among (block_of o) (live_blocks w.objects) (disjoint_live g w.objects out) (among_live w.objects k o l)) low }))
+          let low = h.heap k o l (and_left (is_heap o.kind) _ e) in (
+            refl,
+            inr (record {
+              number = k;
+              object = o;
+              live = l;
+              world = refl;
+              not_null = not_null;
+              base = base;
+              block = ap (λ a. heap_block a (live_blocks w.objects)) base ∙ in_heap o.base (live_blocks w.objects) _ (from_among (block_of o) (live_blocks w.objects) (disjoint_live g w.objects out) (among_live w.objects k o l)) low;
+            }),
+          )
       by false e = (refl, refl, refl, not_null, none_unless (word_at o.base o.exponent z) (live_blocks w.objects) (λ low. from_none (word_at o.base o.exponent z) w.objects (nothing_begins k z o l r e low)))
 
 pub frees_alike : WordsAreNotNull → (g line : ℕ) (q : Pointer) (w : World) → AreLaidOut g w.objects → InRegions w.objects → IsPointer g w.objects q → FreesAlike line w (word_of w.objects q) (free line q w)

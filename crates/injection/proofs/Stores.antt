@@ -1,15 +1,15 @@
 -- What cells hold, memory holds; and writes keep it so.
-use Rattle.std.proofs.Common.{◌≡◌, ◌≢◌, ◌⊎◌, ℕ, zero, suc, ◌+◌, ◌-◌, ◌*◌, ◌/◌, ◌%◌, ◌^◌, ◌<◌, ◌≤◌, Bool, true, false, ◌&&◌, cond, ◌==◌, List, [], ◌∷◌, length, map, All, Option, Some, None, slice_get, slice_set, refl, sym, ap, ◌∙◌, subst, inl, inr, arith, nat_le, nat_lt}
+use Rattle.std.proofs.Common.{◌≡◌, ◌≢◌, ◌⊎◌, ℕ, zero, suc, ◌+◌, ◌^◌, ◌<◌, ◌≤◌, List, [], ◌∷◌, length, map, All, slice_get, refl, sym, ap, ◌∙◌, subst, inl, inr, arith}
 use Rattle.std.proofs.lemmas.Option.{same_Some}
-use Rattle.std.proofs.lemmas.Bool.{cases_eq, cases_lt}
+use Rattle.std.proofs.lemmas.Bool.{cases_eq}
 use Rattle.std.proofs.lemmas.Bool.Decides.{nat_tests}
 use Rattle.std.proofs.lemmas.List.Elements.{All-head, All-tail}
 use Rattle.source_meaning.specs.declared.values.Cell.{Cell}
-use Rattle.source_meaning.specs.declared.values.Cell.TheVariants.{Byte, Part}
+use Rattle.source_meaning.specs.declared.values.Cell.TheVariants.{Byte}
 use Rattle.source_meaning.specs.Objects.{Object, Cells, with_cell, cells_at, with_cells, cleared}
 use Rattle.flat_code.specs.World.{Memory, with_byte, bytes_at, with_bytes, zeroed}
 use Rattle.injection.specs.Words.{byte_of}
-use Rattle.injection.specs.Memory.{IsLive, AreApart, AreLaidOut, IsCell, Holds, Injects}
+use Rattle.injection.specs.Memory.{IsLive, AreLaidOut, IsCell, Holds, Injects}
 
 pub with_byte_same : (memory : Memory) (at byte a : ℕ) → a ≡ at → with_byte memory at byte a ≡ byte
 with_byte_same memory at byte a e = grind (arith, nat_tests)
@@ -60,6 +60,7 @@ cell_stored g os cs memory k o i c out h l within = record { bytes = λ j p n r 
       where
         b : p.base ≡ o.base
         b = ap (λ (x : Object). x.base) (same_object os j k p o r l e)
+
         at_place : (n ≡ i) ⊎ (n ≡ i → ⊥) → with_byte memory (o.base + i) (byte_of os c) (p.base + n) ≡ byte_of os (with_cell cs k i c j n)
         at_place (inl f) = with_byte_same memory (o.base + i) (byte_of os c) (p.base + n) (omega (arith, b)) ∙ sym (ap (byte_of os) (with_cell_same cs k i c j n e f))
         at_place (inr f) = with_byte_other memory (o.base + i) (byte_of os c) (p.base + n) (omega (arith, b)) ∙ h.bytes j p n r at ∙ sym (ap (byte_of os) (with_cell_place cs k i c j n f))
@@ -77,7 +78,8 @@ pub cell_keeps : (g : ℕ) (os : List Object) (cs : Cells) (memory : Memory) (k 
 cell_keeps g os cs memory k o i c l lt is h = record {
   out = h.out;
   cells = cell_formed g os cs k i c h.cells is;
-  holds = cell_stored g os cs memory k o i c h.out h.holds l lt }
+  holds = cell_stored g os cs memory k o i c h.out h.holds l lt;
+}
 
 -- cells are written, and their bytes
 pub cells_keep : (g : ℕ) (os : List Object) (cs : Cells) (memory : Memory) (k : ℕ) (o : Object) (i : ℕ) (xs : List Cell) → IsLive os k o → i + length xs ≤ o.length → All (IsCell g os) xs → Injects g os cs memory → Injects g os (with_cells cs k i xs) (with_bytes memory (o.base + i) (map (byte_of os) xs))
@@ -102,11 +104,13 @@ pub clear_keeps : (g : ℕ) (os : List Object) (cs : Cells) (memory : Memory) (k
 clear_keeps g os cs memory k o n l least most h = record {
   out = h.out;
   cells = λ j i. formed j i (cases_eq j k);
-  holds = record { bytes = λ j p i r at. at_object j p i r at (cases_eq j k) } }
+  holds = record { bytes = λ j p i r at. at_object j p i r at (cases_eq j k) };
+}
   where
     formed : (j i : ℕ) → (j ≡ k) ⊎ (j ≡ k → ⊥) → IsCell g os (cleared cs k j i)
     formed j i (inl e) = subst (IsCell g os) (sym (cleared_same cs k j i e)) (let q : 0 < 256 = omega arith in q)
     formed j i (inr e) = subst (IsCell g os) (sym (cleared_other cs k j i e)) (h.cells j i)
+
     at_object : (j : ℕ) (p : Object) (i : ℕ) → IsLive os j p → i < p.length → (j ≡ k) ⊎ (j ≡ k → ⊥) → zeroed memory o.base n (p.base + i) ≡ byte_of os (cleared cs k j i)
     at_object j p i r at (inl e) =
         let same = same_object os j k p o r l e in

@@ -1,5 +1,5 @@
 -- What is read by a pointer is read by its word, and what is written likewise.
-use Rattle.std.proofs.Common.{◌≡◌, ◌≢◌, ◌⊎◌, ℕ, zero, suc, ◌+◌, ◌*◌, ◌-◌, ◌/◌, ◌%◌, ◌^◌, ◌<◌, ◌≤◌, Bool, true, false, not, ◌&&◌, ◌||◌, ◌==◌, cond, nat_lt, nat_le, List, [], ◌∷◌, map, length, All, Option, Some, None, slice_get, ℤ, pos, negsuc, refl, sym, ap, ◌∙◌, subst, inl, inr, arith, true≢false, ne_eqb}
+use Rattle.std.proofs.Common.{◌≡◌, ◌≢◌, ℕ, zero, suc, ◌+◌, ◌*◌, ◌-◌, ◌^◌, ◌<◌, ◌≤◌, Bool, true, false, not, ◌&&◌, ◌||◌, ◌==◌, cond, nat_lt, List, ◌∷◌, map, length, All, Option, Some, None, slice_get, ℤ, pos, negsuc, refl, sym, ap, ◌∙◌, subst, arith, ne_eqb}
 use Rattle.std.proofs.lemmas.Option.{same_Some, none-some}
 use Rattle.std.proofs.lemmas.Bool.Decides.{nat_tests}
 use Rattle.std.proofs.lemmas.Nat.{pow_below, pow-add}
@@ -15,7 +15,7 @@ use Rattle.source_meaning.specs.declared.values.Value.{Value}
 use Rattle.source_meaning.specs.declared.values.Value.TheVariants.{Num, Ptr}
 use Rattle.source_meaning.specs.declared.values.Cell.{Cell}
 use Rattle.source_meaning.specs.declared.values.Cell.TheVariants.{Byte, Part}
-use Rattle.source_meaning.specs.declared.values.OutsideCause.TheVariants.{Forged, Kind}
+use Rattle.source_meaning.specs.declared.values.OutsideCause.TheVariants.{Forged}
 use Rattle.source_meaning.specs.declared.values.Ending.TheVariants.{Exited, Reported, Trapped, Outside, Cut}
 use Rattle.size_table.specs.Table as table
 use Rattle.source_meaning.specs.Objects as objects
@@ -24,10 +24,10 @@ use Rattle.source_meaning.specs.Worlds.{World, Does, outside, is_sound, live_blo
 use Rattle.source_meaning.specs.Accesses.{access, number_read, pointer_read, read_as, loaded_from, load, written_at, store}
 use Rattle.source_meaning.specs.Copies.{initialized_with, initialize}
 use Rattle.flat_code.specs.World.{Memory, read, number_of, bytes_at, bytes_of, with_bytes}
-use Rattle.flat_code.specs.Sequences.{is_held, may_be_loaded}
+use Rattle.flat_code.specs.Sequences.{is_held}
 use Rattle.injection.specs.Words.{word_in, word_of, word_of_value, byte_of}
 use Rattle.injection.specs.Memory.{IsLive, AreLaidOut, IsPointerIn, IsPointer, IsValue, IsCell, Injects}
-use Rattle.injection.specs.Laws.{IsOwned, Found, AccessesAlike, MayBeLoaded, Loads, LoadsAlike, Stores, StoresAlike, InitializesAlike}
+use Rattle.injection.specs.Laws.{Found, AccessesAlike, MayBeLoaded, LoadsAlike, StoresAlike, InitializesAlike}
 use Rattle.injection.proofs.Cells.{pointer_in_cells, pointer_number, number_value, number_bytes, number_length, number_formed, pointer_bytes, pointer_length, pointer_formed}
 use Rattle.injection.proofs.Stores.{cells_read, cells_keep}
 use Rattle.injection.proofs.Owners.{owned, object_byte}
@@ -57,6 +57,7 @@ word_small g b e (pos n) p r =
   where
     half : (i j : ℕ) → i < j → 2 ^ i < 2 ^ j
     half i j h = pow_below i j h
+
     bound : (t : Bool) (x : ℕ) → x < 2147483648 → cond t x (2147483648 + x) < 4294967296
     bound true x h = omega arith
     bound false x h = omega arith
@@ -78,9 +79,11 @@ cells_small g os cs k i (suc n) x f h = at (cs k i) (f k i) (λ y q. cells_small
   where
     more : 256 ^ suc n ≡ 256 * 256 ^ n
     more = ap (λ m. 256 ^ m) (let q : suc n ≡ 1 + n = omega arith in q) ∙ pow-add 256 1 n
+
     with_low : (b : ℕ) (r : Option ℕ) → b < 256 → ((y : ℕ) → r ≡ Some y → y < 256 ^ n) → with_low_byte b r ≡ Some x → x < 256 ^ suc n
     with_low b None lt ih e = absurd (none-some _ e)
     with_low b (Some y) lt ih e = let s = ih y refl in let q = same_Some _ _ e in let m = more in omega (arith, s, q, m, lt)
+
     at : (c : Cell) → IsCell g os c → ((y : ℕ) → number_in (cells_at cs k (i + 1) n) ≡ Some y → y < 256 ^ n) → number_in (c ∷ cells_at cs k (i + 1) n) ≡ Some x → x < 256 ^ suc n
     at (Byte b) lt ih e = with_low b (number_in (cells_at cs k (i + 1) n)) lt ih e
     at (Part m q) lt ih e = absurd (none-some _ e)
@@ -88,7 +91,6 @@ cells_small g os cs k i (suc n) x f h = at (cs k i) (f k i) (λ y q. cells_small
 -- ---- Reads
 
 module _ (owners : OwnerIsBlock) (g : ℕ) (memory : Memory) (w : World) (h : Injects g w.objects w.cells memory) where
-
   number_there : (k i n at x : ℕ) → Found w.objects n at k i → number_in (cells_at w.cells k i n) ≡ Some x → x ≡ number_of (bytes_at memory at n)
   number_there k i n at x f e =
       sym (ap (λ a. number_of (bytes_at memory a n)) f.is
@@ -110,6 +112,7 @@ module _ (owners : OwnerIsBlock) (g : ℕ) (memory : Memory) (w : World) (h : In
       bound : (x : ℕ) → x < 65536 → (t : Bool) → cond t x (x + 4294901760) < 4294967296
       bound x s true = omega arith
       bound x s false = omega arith
+
       by : (r : Option ℕ) → number_in (cells_at w.cells k i 2) ≡ r → LoadsAlike g width.SignedHalf memory w at (number_read true r w)
       by None e = refl
       by (Some x) e =
@@ -136,9 +139,11 @@ module _ (owners : OwnerIsBlock) (g : ℕ) (memory : Memory) (w : World) (h : In
     where
       below : (a b : ℕ) → a < b → nat_lt a b ≡ true
       below a b l = grind (arith, nat_tests)
+
       or_true : (a : Bool) → (a || true) ≡ true
       or_true true = refl
       or_true false = refl
+
       passes : (word : ℕ) (x : Option ℕ) (slot : ℕ) → x ≡ Some slot → slot < 2 ^ (25 - g) → table.byte_of g (live_blocks w.objects) slot ≢ 0 → ((word == 0) || is_held g (live_blocks w.objects) x) ≡ true
       passes word x slot e lt n =
           ap (λ y. (word == 0) || is_held g (live_blocks w.objects) y) e
@@ -159,14 +164,17 @@ module _ (owners : OwnerIsBlock) (g : ℕ) (memory : Memory) (w : World) (h : In
         where
           cells : cells_at w.cells k i 4 ≡ pointer_cells q
           cells = pointer_in_cells (cells_at w.cells k i 4) q e
+
           formed : IsPointer g w.objects q
           formed = pointer_there k i q cells
+
           number : number_of (bytes_at memory at 4) ≡ word_of w.objects q
           number =
               ap (λ a. number_of (bytes_at memory a 4)) f.is
               ∙ ap number_of (cells_read w.objects w.cells memory k f.object i 4 h.holds f.live f.within)
               ∙ ap (λ cs. number_of (map (byte_of w.objects) cs)) cells
               ∙ pointer_number w.objects q (pointer_small g w.objects q h.out formed)
+
           by_sound : (t : Bool) → is_sound w q ≡ t → LoadsAlike g width.Pointer memory w at (cond t (Goes (Ptr q) w) (outside Forged w))
           by_sound false s = refl
           by_sound true s = (refl, record { place = (k, i); found = f; formed = formed; word = sym number; passes = sound_passes q formed s })
@@ -218,7 +226,6 @@ value_cells g os width.Word (Ptr q) f = tt
 value_cells g os width.Pointer (Ptr q) f = record { count = pointer_length q; formed = pointer_formed g os q f; bytes = pointer_bytes os q }
 
 module _ (g : ℕ) (memory : Memory) (w : World) (h : Injects g w.objects w.cells memory) (wide : Width) (word : ℕ) where
-
   cells_written : (k i : ℕ) (o : Object) (cs : List Cell) → IsLive w.objects k o → i + size_of_width wide ≤ o.length → AreCells g w.objects (size_of_width wide) word cs → Injects g w.objects (with_cells w.cells k i cs) (with_bytes memory (o.base + i) (bytes_of (size_of_width wide) word))
   cells_written k i o cs l within c =
       subst (λ bs. Injects g w.objects (with_cells w.cells k i cs) (with_bytes memory (o.base + i) bs)) c.bytes
@@ -230,7 +237,8 @@ module _ (g : ℕ) (memory : Memory) (w : World) (h : Injects g w.objects w.cell
     place = place;
     found = f;
     world = refl;
-    keeps = subst (λ a. Injects g w.objects (with_cells w.cells place.0 place.1 cs) (with_bytes memory a (bytes_of (size_of_width wide) word))) (sym f.is) (cells_written place.0 place.1 f.object cs f.live f.within c) }
+    keeps = subst (λ a. Injects g w.objects (with_cells w.cells place.0 place.1 cs) (with_bytes memory a (bytes_of (size_of_width wide) word))) (sym f.is) (cells_written place.0 place.1 f.object cs f.live f.within c);
+  }
 
   written_after : (q : Pointer) (v : Value) (at : ℕ) (r : Does (ℕ × ℕ)) → CellsIfAny g w.objects (size_of_width wide) word (stored_cells wide v) → AccessesAlike w q (size_of_width wide) at r → StoresAlike g wide memory w at word (and_then r (λ a. written_at a (stored_cells wide v)))
   unfolding and_then

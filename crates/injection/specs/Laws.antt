@@ -1,5 +1,5 @@
 -- What each operation on objects is on words and memory, for slots of 2 ^ g bytes.
-use Rattle.std.specs.Prelude.{◌≡◌, ◌≢◌, ◌==◌, ◌⊎◌, ℕ, ◌+◌, ◌-◌, ◌^◌, ◌<◌, ◌≤◌, nat_lt, nat_le, Bool, true, false, not, List, [], ◌∷◌, ◌++◌, length, map, reverse, Option, Some, None, slice_get, ℤ, pos}
+use Rattle.std.specs.Prelude.{◌≡◌, ◌≢◌, ◌==◌, ◌⊎◌, ℕ, ◌+◌, ◌-◌, ◌^◌, ◌<◌, ◌≤◌, nat_lt, nat_le, Bool, true, false, not, List, [], ◌∷◌, ◌++◌, length, map, reverse, Some, None, slice_get, ℤ, pos}
 use Rattle.bb_words.specs.Answers.{Goes, Ends}
 use Rattle.bb_words.specs.Numbers.{signed}
 use Rattle.bb_words.specs.Steps.{flag, size_of_width}
@@ -19,14 +19,14 @@ use Rattle.size_table.specs.Table as table
 use Rattle.buddy_heap.specs.Places.{place_of}
 use Rattle.block_layout.specs.Layout.{Item, Placed, layout, stack_under}
 use Rattle.source_meaning.specs.declared.values.Pointer.{Pointer}
-use Rattle.source_meaning.specs.declared.values.Pointer.TheVariants.{Null, To}
+use Rattle.source_meaning.specs.declared.values.Pointer.TheVariants.{To}
 use Rattle.source_meaning.specs.declared.values.Value.{Value}
 use Rattle.source_meaning.specs.declared.values.Value.TheVariants.{Num, Ptr}
 use Rattle.source_meaning.specs.declared.values.ObjectKind.TheVariants.{Local, Heap}
 use Rattle.source_meaning.specs.declared.values.Cell.{Cell}
 use Rattle.source_meaning.specs.declared.values.Ending.TheVariants.{Exited, Reported, Trapped, Outside, Cut}
 use Rattle.source_meaning.specs.Objects.{Object, Cells, cleared, copied, all_set, ended_in}
-use Rattle.source_meaning.specs.Worlds.{World, Does, Mark, Moved, noted, made, ended, all_ended, is_heap, live_blocks, heap_blocks}
+use Rattle.source_meaning.specs.Worlds.{World, Does, Mark, Moved, noted, ended, all_ended, is_heap, live_blocks, heap_blocks}
 use Rattle.source_meaning.specs.Moves.{move}
 use Rattle.source_meaning.specs.Accesses.{access, load, store}
 use Rattle.source_meaning.specs.Comparisons.{same, ordered, elements_between, truth}

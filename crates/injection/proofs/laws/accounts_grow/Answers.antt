@@ -6,4 +6,5 @@ returns c = record {
   made = λ os more. (accounted_more os more, stays_more os more);
   made_since = since_made;
   ended = λ os k. (accounted_ended os k, since_ended os k);
-  ended_stays = stays_ended }
+  ended_stays = stays_ended;
+}

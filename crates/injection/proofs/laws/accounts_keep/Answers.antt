@@ -7,4 +7,5 @@ returns c = record {
   values = λ g a b v h f. (value_kept g a b v h f, value_word_kept g a b v h f);
   cells = λ g a b x h f. (cell_kept g a b x h f, byte_kept g a b x h f);
   words = values_kept;
-  trails = λ g safe a b marks h f. (named_kept g a b marks h f, image_kept g safe a b marks h f) }
+  trails = λ g safe a b marks h f. (named_kept g a b marks h f, image_kept g safe a b marks h f);
+}

@@ -1,4 +1,4 @@
-use Rattle.injection.proofs.Compare.{MarkedLaws, compares_alike}
+use Rattle.injection.proofs.Compare.{compares_alike}
 use Rattle.injection.proofs.laws.comparisons_are_of_words.Goals as goal
 
 pub returns : goal.returns
