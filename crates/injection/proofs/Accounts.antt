@@ -1,5 +1,5 @@
 -- Objects that keep their accounts keep the words of pointers, and all that is said by words.
-use Rattle.std.proofs.Common.{◌≡◌, ◌⊎◌, ℕ, ◌/◌, ◌%◌, ◌^◌, ◌<◌, ◌≤◌, false, List, [], ◌∷◌, ◌++◌, length, Option, Some, None, slice_get, refl, sym, ap, ◌∙◌, subst, inl, inr, arith, true≢false}
+use Rattle.std.proofs.Common.{◌≡◌, ◌⊎◌, ℕ, ◌/◌, ◌%◌, ◌^◌, ◌<◌, ◌≤◌, false, List, [], ◌∷◌, ◌++◌, length, Option, Some, None, slice_get, refl, sym, ap, ◌∙◌, subst, inl, inr, arith, true≢false, Bool, true}
 use Rattle.std.proofs.lemmas.Option.{same_Some}
 use Rattle.std.proofs.lemmas.Bool.{cases_eq}
 use Rattle.marked_ptr.specs.Marked.{word_at}
@@ -95,6 +95,21 @@ image_kept g safe a b (Moved site from to ∷ marks) h f =
     ap (λ x. pair_unless (safe site) x (word_of b to) (image_trail safe b marks)) (word_kept g a b from h f.0)
     ∙ ap (λ x. pair_unless (safe site) (word_of a from) x (image_trail safe b marks)) (word_kept g a b to h f.1)
     ∙ ap (pair_unless (safe site) (word_of a from) (word_of a to)) (image_kept g safe a b marks h f.2)
+
+pub named_append : (g : ℕ) (os : List Object) (xs ys : List Mark) → TrailIsNamed g os xs → TrailIsNamed g os ys → TrailIsNamed g os (xs ++ ys)
+named_append g os [] ys f h = h
+named_append g os (Line line ∷ xs) ys f h = named_append g os xs ys f h
+named_append g os (Moved site from to ∷ xs) ys f h = (f.0, f.1, named_append g os xs ys f.2 h)
+
+pub image_append : (safe : SafeSites) (os : List Object) (xs ys : List Mark) → image_trail safe os (xs ++ ys) ≡ image_trail safe os xs ++ image_trail safe os ys
+image_append safe os [] ys = refl
+image_append safe os (Line line ∷ xs) ys = ap (λ ms. Begun line ∷ ms) (image_append safe os xs ys)
+image_append safe os (Moved site from to ∷ xs) ys =
+    ap (pair_unless (safe site) (word_of os from) (word_of os to)) (image_append safe os xs ys) ∙ by (safe site)
+  where
+    by : (t : Bool) → pair_unless t (word_of os from) (word_of os to) (image_trail safe os xs ++ image_trail safe os ys) ≡ pair_unless t (word_of os from) (word_of os to) (image_trail safe os xs) ++ image_trail safe os ys
+    by true = refl
+    by false = refl
 
 -- ---- Objects that come and go
 

@@ -12,3 +12,4 @@ pub mod Compare
 pub mod Regions
 pub mod Frames
 pub mod Layouts
+pub mod Spans

@@ -7,6 +7,7 @@ use Rattle.bb_words.specs.declared.kinds.ReportKind.TheVariants.{Bounds, BadFree
 use Rattle.bb_words.specs.declared.steps.Width.{Width}
 use Rattle.bb_words.specs.declared.steps.OrderOp.{OrderOp}
 use Rattle.bb_words.specs.declared.steps.OrderOp.TheVariants as order
+use Rattle.bb_watch.specs.Safety.{LieIn}
 use Rattle.marked_ptr.specs.Marked.{owner_slot, unmarked, difference, moved, inside, outside}
 use Rattle.marked_ptr.specs.Laws.{IsInReach}
 use Rattle.marked_ptr.specs.declared.answer.MoveAnswer.{MoveAnswer}
@@ -31,7 +32,7 @@ use Rattle.source_meaning.specs.Moves.{move}
 use Rattle.source_meaning.specs.Accesses.{access, load, store}
 use Rattle.source_meaning.specs.Comparisons.{same, ordered, elements_between, truth}
 use Rattle.source_meaning.specs.Accounts.{object_of, all_made, free}
-use Rattle.source_meaning.specs.Copies.{initialize, with_bytes as counted}
+use Rattle.source_meaning.specs.Copies.{span, initialize, with_bytes as counted}
 use Rattle.flat_code.specs.World.{Memory, Words, FWorld, read, with_bytes, bytes_of, zeroed}
 use Rattle.flat_code.specs.World.{Ending as FlatEnding}
 use Rattle.flat_code.specs.Run.{refusal}
@@ -62,6 +63,11 @@ pub record AccountsKeep : Type 0 where
   pub cells : (g : ℕ) (a b : List Object) (c : Cell) → Accounted a b → IsCell g a c → IsCell g b c × (byte_of b c ≡ byte_of a c)
   pub words : (g n : ℕ) (a b : List Object) (values : ℕ → Value) (words : Words) → Accounted a b → SameValues g n a values words → SameValues g n b values words
   pub trails : (g : ℕ) (safe : SafeSites) (a b : List Object) (marks : List Mark) → Accounted a b → TrailIsNamed g a marks → TrailIsNamed g b marks × (image_trail safe b marks ≡ image_trail safe a marks)
+
+-- The image of two trails is that of the one and then of the other.
+pub record TrailsAppend : Type 0 where
+  pub named : (g : ℕ) (os : List Object) (xs ys : List Mark) → TrailIsNamed g os xs → TrailIsNamed g os ys → TrailIsNamed g os (xs ++ ys)
+  pub image : (safe : SafeSites) (os : List Object) (xs ys : List Mark) → image_trail safe os (xs ++ ys) ≡ image_trail safe os xs ++ image_trail safe os ys
 
 -- Objects that are made come after the others; one that ends leaves its account.
 pub record AccountsGrow : Type 0 where
@@ -129,6 +135,25 @@ AccessesAlike w q size at (Ends Cut x) = ⊥
 -- A slot has at least four bytes, so that a place is a multiple of a size just where its address is.
 abbrev pub AccessesAreFound : Type 0
 AccessesAreFound = (g : ℕ) (width : Width) (q : Pointer) (w : World) → 2 ≤ g → AreLaidOut g w.objects → AccessesAlike w q (size_of_width width) (word_of w.objects q) (access (size_of_width width) q w)
+
+-- the bytes of an access that finds a place lie in a live block
+abbrev pub FoundLieInBlocks : Type 0
+FoundLieInBlocks = (g : ℕ) (os : List Object) (size at k i : ℕ) → AreLaidOut g os → Found os size at k i → LieIn at size (live_blocks os)
+
+-- A span of bytes that goes on at a place was moved over once, to its last byte, and lies in one live object from there on.
+pub record IsSpanned (site n : ℕ) (w : World) (q : Pointer) (first : ℕ × ℕ) (x : World) : Type 0 where
+  pub object : Object
+  pub live : IsLive w.objects first.0 object
+  pub pointer : q ≡ To first.0 (pos first.1)
+  pub within : first.1 + n ≤ object.length
+  pub world : x ≡ noted (Moved site q (To first.0 (pos (first.1 + (n - 1))))) w
+
+abbrev pub SpansIfAny : (site n : ℕ) → World → Pointer → Does (ℕ × ℕ) → Type 0
+SpansIfAny site n w q (Goes first x) = IsSpanned site n w q first x
+SpansIfAny site n w q (Ends ending x) = Unit {0}
+
+abbrev pub SpansLieInObjects : Type 0
+SpansLieInObjects = (g site line n : ℕ) (q : Pointer) (w : World) → 2 ≤ g → 1 ≤ n → AreLaidOut g w.objects → SpansIfAny site n w q (span g site line n q w)
 
 -- ---- Reads and writes
 

@@ -1,5 +1,5 @@
 //! What each operation on objects is on words and memory, for what stands on it.
-ghost use Rattle.injection.specs.Laws.{AccountsCompose, AccountsKeep, AccountsGrow, PointersAreOwned, OwnersHaveExponents, MovesAreMoved, AccessesAreFound, LoadsAreReads, StoresAreWrites, InitializersAreWrites, ClearsAreZeros, CopiesAreBytes, SetsAreBytes, ComparisonsAreOfWords, TruthIsOfWords, MadeKeeps, EndedKeeps, PlacesKeep, PlacesAreFree, FreesAreOfBlocks, EntriesKeep, ExitsKeep, FramesAreAlike};
+ghost use Rattle.injection.specs.Laws.{AccountsCompose, AccountsKeep, TrailsAppend, AccountsGrow, PointersAreOwned, OwnersHaveExponents, MovesAreMoved, AccessesAreFound, FoundLieInBlocks, SpansLieInObjects, LoadsAreReads, StoresAreWrites, InitializersAreWrites, ClearsAreZeros, CopiesAreBytes, SetsAreBytes, ComparisonsAreOfWords, TruthIsOfWords, MadeKeeps, EndedKeeps, PlacesKeep, PlacesAreFree, FreesAreOfBlocks, EntriesKeep, ExitsKeep, FramesAreAlike};
 
 /// What objects keep over two parts of a run they keep over both.
 pub fn accounts_compose()
@@ -9,6 +9,11 @@ pub fn accounts_compose()
 /// While objects keep their accounts, pointers keep their words, and so do values, cells and trails.
 pub fn accounts_keep()
     ensures { AccountsKeep }
+{}
+
+/// The image of two trails is that of the one and then of the other.
+pub fn trails_append()
+    ensures { TrailsAppend }
 {}
 
 /// Objects that are made or end leave the accounts of all others, and their own.
@@ -41,6 +46,16 @@ pub fn moves_are_moved()
 /// An access by a pointer is one by its word.
 pub fn accesses_are_found()
     ensures { AccessesAreFound }
+{}
+
+/// The bytes of an access that finds a place lie in a live block.
+pub fn found_lie_in_blocks()
+    ensures { FoundLieInBlocks }
+{}
+
+/// The bytes of a span lie in one object.
+pub fn spans_lie_in_objects()
+    ensures { SpansLieInObjects }
 {}
 
 /// A value that is read by a pointer is read by its word, and code may go on with it.
