@@ -1,5 +1,5 @@
 -- The layout of a frame, as objects and as blocks.
-use Rattle.std.proofs.Common.{◌≡◌, ℕ, zero, suc, ◌+◌, ◌-◌, ◌*◌, ◌/◌, ◌%◌, ◌^◌, ◌<◌, ◌≤◌, Bool, true, false, ◌==◌, cond, nat_lt, List, [], ◌∷◌, ◌++◌, refl, sym, ap, ◌∙◌, subst, arith, pow_pos, eqb-true}
+use Rattle.std.proofs.Common.{◌≡◌, ℕ, zero, suc, ◌+◌, ◌-◌, ◌*◌, ◌/◌, ◌%◌, ◌^◌, ◌<◌, ◌≤◌, Bool, true, false, ◌==◌, cond, nat_lt, List, [], ◌∷◌, ◌++◌, refl, sym, ap, ◌∙◌, subst, arith, pow_pos, eqb-true, length}
 use Rattle.std.proofs.lemmas.Bool.Decides.{nat_tests}
 use Rattle.std.proofs.lemmas.Nat.{pow-add, mod-mul-add, div-add-mod'}
 use Rattle.size_table.specs.declared.memory_map.TheConstants.{STACK_START, HEAP_START}
@@ -16,60 +16,83 @@ alignment_of_placed : (g offset : ℕ) (items : List Item) → alignment g (expo
 alignment_of_placed g offset [] = refl
 alignment_of_placed g offset (i ∷ is) = refl
 
-total_append : (g : ℕ) (xs ys : List Item) → total_of g (xs ++ ys) ≡ total_of g xs + total_of g ys
-total_append g [] ys = omega arith
-total_append g (x ∷ xs) ys = let r = total_append g xs ys in omega (arith, r)
+-- what items weigh together
+abbrev sum_of : (weight : Item → ℕ) → List Item → ℕ
+sum_of weight [] = 0
+sum_of weight (i ∷ is) = weight i + sum_of weight is
 
--- ---- The total of a layout
+total_is : (g : ℕ) (items : List Item) → total_of g items ≡ sum_of (pad g) items
+total_is g [] = refl
+total_is g (i ∷ is) = ap (λ n. pad g i + n) (total_is g is)
 
--- the padded sizes of the items whose exponents are below m
-abbrev below : (g m : ℕ) → List Item → ℕ
-below g m [] = 0
-below g m (i ∷ is) = cond (nat_lt (exponent_of g i.length) m) (pad g i) 0 + below g m is
+length_is : (items : List Item) → length items ≡ sum_of (λ i. 1) items
+length_is [] = refl
+length_is (i ∷ is) = let r = length_is is in omega (arith, r)
+
+length_of_placed : (g offset : ℕ) (items : List Item) → length (placed_from g offset items) ≡ length items
+length_of_placed g offset [] = refl
+length_of_placed g offset (i ∷ is) = ap suc (length_of_placed g (offset + pad g i) is)
+
+sum_append : (weight : Item → ℕ) (xs ys : List Item) → sum_of weight (xs ++ ys) ≡ sum_of weight xs + sum_of weight ys
+sum_append weight [] ys = omega arith
+sum_append weight (x ∷ xs) ys = let r = sum_append weight xs ys in omega (arith, r)
+
+-- ---- What a layout weighs
+
+-- what the items weigh whose exponents are below m
+abbrev below : (weight : Item → ℕ) → (g m : ℕ) → List Item → ℕ
+below weight g m [] = 0
+below weight g m (i ∷ is) = cond (nat_lt (exponent_of g i.length) m) (weight i) 0 + below weight g m is
 
 step_item : (e m p t r : ℕ) → cond (nat_lt e (suc m)) p 0 + (t + r) ≡ cond (e == m) (p + t) t + (cond (nat_lt e m) p 0 + r)
 step_item e m p t r = grind (arith, nat_tests)
 
-below_step : (g m : ℕ) (items : List Item) → below g (suc m) items ≡ total_of g (padded_to g m items) + below g m items
-below_step g m [] = refl
-below_step g m (i ∷ is) =
-    ap (λ n. cond (nat_lt (exponent_of g i.length) (suc m)) (pad g i) 0 + n) (below_step g m is)
-    ∙ step_item (exponent_of g i.length) m (pad g i) (total_of g (padded_to g m is)) (below g m is)
-    ∙ ap (λ n. n + (cond (nat_lt (exponent_of g i.length) m) (pad g i) 0 + below g m is)) (by (exponent_of g i.length == m))
+below_step : (weight : Item → ℕ) (g m : ℕ) (items : List Item) → below weight g (suc m) items ≡ sum_of weight (padded_to g m items) + below weight g m items
+below_step weight g m [] = refl
+below_step weight g m (i ∷ is) =
+    ap (λ n. cond (nat_lt (exponent_of g i.length) (suc m)) (weight i) 0 + n) (below_step weight g m is)
+    ∙ step_item (exponent_of g i.length) m (weight i) (sum_of weight (padded_to g m is)) (below weight g m is)
+    ∙ ap (λ n. n + (cond (nat_lt (exponent_of g i.length) m) (weight i) 0 + below weight g m is)) (by (exponent_of g i.length == m))
   where
-    by : (t : Bool) → cond t (pad g i + total_of g (padded_to g m is)) (total_of g (padded_to g m is)) ≡ total_of g (cond t (i ∷ padded_to g m is) (padded_to g m is))
+    by : (t : Bool) → cond t (weight i + sum_of weight (padded_to g m is)) (sum_of weight (padded_to g m is)) ≡ sum_of weight (cond t (i ∷ padded_to g m is) (padded_to g m is))
     by true = refl
     by false = refl
 
 module _ (exponents_least : ExponentIsLeast) (g : ℕ) (one : 1 ≤ g) (small : g ≤ 24) where
-  none_below : (items : List Item) → AreSmall items → below g (g + 0) items ≡ 0
-  none_below [] s = refl
-  none_below (i ∷ is) s =
+  none_below : (weight : Item → ℕ) (items : List Item) → AreSmall items → below weight g (g + 0) items ≡ 0
+  none_below weight [] s = refl
+  none_below weight (i ∷ is) s =
       let e = (exponents_least g i.length small s.0).slot in
-      ap (λ t. cond t (pad g i) 0 + below g (g + 0) is) (no (exponent_of g i.length) (g + 0) (omega (arith, e))) ∙ let r = none_below is s.1 in omega (arith, r)
+      ap (λ t. cond t (weight i) 0 + below weight g (g + 0) is) (no (exponent_of g i.length) (g + 0) (omega (arith, e))) ∙ let r = none_below weight is s.1 in omega (arith, r)
     where
       no : (a b : ℕ) → b ≤ a → nat_lt a b ≡ false
       no a b h = grind (arith, nat_tests)
 
-  all_below : (m : ℕ) (items : List Item) → 24 < m → AreSmall items → below g m items ≡ total_of g items
-  all_below m [] lt s = refl
-  all_below m (i ∷ is) lt s =
+  all_below : (weight : Item → ℕ) (m : ℕ) (items : List Item) → 24 < m → AreSmall items → below weight g m items ≡ sum_of weight items
+  all_below weight m [] lt s = refl
+  all_below weight m (i ∷ is) lt s =
       let e = (exponents_least g i.length small s.0).least 24 small s.0 in
-      ap (λ t. cond t (pad g i) 0 + below g m is) (yes (exponent_of g i.length) m (omega (arith, e, lt))) ∙ ap (λ n. pad g i + n) (all_below m is lt s.1)
+      ap (λ t. cond t (weight i) 0 + below weight g m is) (yes (exponent_of g i.length) m (omega (arith, e, lt))) ∙ ap (λ n. weight i + n) (all_below weight m is lt s.1)
     where
       yes : (a b : ℕ) → a < b → nat_lt a b ≡ true
       yes a b h = grind (arith, nat_tests)
 
-  declining_total : (n : ℕ) (items : List Item) → AreSmall items → total_of g (declining g n items) ≡ below g (g + n) items
-  declining_total zero items s = sym (none_below items s)
-  declining_total (suc n) items s =
-      total_append g (padded_to g (g + n) items) (declining g n items)
-      ∙ ap (λ x. total_of g (padded_to g (g + n) items) + x) (declining_total n items s)
-      ∙ sym (below_step g (g + n) items)
-      ∙ ap (λ m. below g m items) (let q : suc (g + n) ≡ g + suc n = omega arith in q)
+  declining_sum : (weight : Item → ℕ) (n : ℕ) (items : List Item) → AreSmall items → sum_of weight (declining g n items) ≡ below weight g (g + n) items
+  declining_sum weight zero items s = sym (none_below weight items s)
+  declining_sum weight (suc n) items s =
+      sum_append weight (padded_to g (g + n) items) (declining g n items)
+      ∙ ap (λ x. sum_of weight (padded_to g (g + n) items) + x) (declining_sum weight n items s)
+      ∙ sym (below_step weight g (g + n) items)
+      ∙ ap (λ m. below weight g m items) (let q : suc (g + n) ≡ g + suc n = omega arith in q)
 
-  pub layout_total : (items : List Item) → AreSmall items → total_of g (declining g (25 - g) items) ≡ total_of g items
-  layout_total items s = declining_total (25 - g) items s ∙ all_below (g + (25 - g)) items (omega (arith, small)) s
+  layout_sum : (weight : Item → ℕ) (items : List Item) → AreSmall items → sum_of weight (declining g (25 - g) items) ≡ sum_of weight items
+  layout_sum weight items s = declining_sum weight (25 - g) items s ∙ all_below weight (g + (25 - g)) items (omega (arith, small)) s
+
+  layout_total : (items : List Item) → AreSmall items → total_of g (declining g (25 - g) items) ≡ total_of g items
+  layout_total items s = total_is g (declining g (25 - g) items) ∙ layout_sum (pad g) items s ∙ sym (total_is g items)
+
+  layout_length : (items : List Item) → AreSmall items → length (declining g (25 - g) items) ≡ length items
+  layout_length items s = length_is (declining g (25 - g) items) ∙ layout_sum (λ i. 1) items s ∙ sym (length_is items)
 
   -- ---- The order of a layout
 
@@ -159,6 +182,7 @@ module _ (exponents_least : ExponentIsLeast) (g : ℕ) (one : 1 ≤ g) (small : 
       let d = declines_all (25 - g) 24 items (omega (arith, small)) s in
       let total = layout_total items s in
       record {
+        count = length_of_placed g 0 order ∙ layout_length items s;
         number =
             ap (λ n. (stack - n) / 2 ^ alignment g (exponents (placed_from g 0 order)) * 2 ^ alignment g (exponents (placed_from g 0 order))) (size_of_placed g 0 order ∙ total)
             ∙ ap (λ a. (stack - total_of g items) / 2 ^ a * 2 ^ a) (alignment_of_placed g 0 order);

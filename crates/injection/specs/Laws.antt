@@ -385,9 +385,10 @@ abbrev pub AreSmall : List Item → Type 0
 AreSmall [] = Unit {0}
 AreSmall (item ∷ items) = (item.length ≤ MOST_BYTES) × AreSmall items
 
--- The stack number of a frame is one for its objects and for its blocks. If it is none below the data stack, the objects
--- may be laid from there on.
+-- A layout has all objects of the frame. Their stack number is that of their blocks; if it is none below the data stack,
+-- they may be laid from there on.
 pub record FramesAlike (g stack : ℕ) (items : List Item) : Type 0 where
+  pub count : length (layout g items) ≡ length items
   pub number : accounts.stack_under g stack (exponents (layout g items)) ≡ stack_under g stack items
   pub under : STACK_START ≤ stack_under g stack items → stack_under g stack items ≤ stack
   pub laid : STACK_START ≤ stack_under g stack items → IsLaid g (stack_under g stack items) (stack_under g stack items) stack (layout g items)
