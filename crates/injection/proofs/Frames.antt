@@ -34,7 +34,7 @@ length_next : {A : Type 0} (xs : List A) (y : A) → length (xs ++ y ∷ []) ≡
 length_next [] y = refl
 length_next (x ∷ xs) y = ap suc (length_next xs y)
 
-get_next : {A : Type 0} (xs : List A) (y : A) (ys : List A) → slice_get (xs ++ y ∷ ys) (length xs) ≡ Some y
+pub get_next : {A : Type 0} (xs : List A) (y : A) (ys : List A) → slice_get (xs ++ y ∷ ys) (length xs) ≡ Some y
 get_next [] y ys = refl
 get_next (x ∷ xs) y ys = get_next xs y ys
 

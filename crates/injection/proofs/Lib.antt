@@ -13,3 +13,4 @@ pub mod Regions
 pub mod Frames
 pub mod Layouts
 pub mod Spans
+pub mod Heap

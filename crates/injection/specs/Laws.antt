@@ -20,24 +20,24 @@ use Rattle.size_table.specs.Table as table
 use Rattle.buddy_heap.specs.Places.{place_of}
 use Rattle.block_layout.specs.Layout.{Item, Placed, layout, stack_under}
 use Rattle.source_meaning.specs.declared.values.Pointer.{Pointer}
-use Rattle.source_meaning.specs.declared.values.Pointer.TheVariants.{To}
+use Rattle.source_meaning.specs.declared.values.Pointer.TheVariants.{Null, To}
 use Rattle.source_meaning.specs.declared.values.Value.{Value}
 use Rattle.source_meaning.specs.declared.values.Value.TheVariants.{Num, Ptr}
 use Rattle.source_meaning.specs.declared.values.ObjectKind.TheVariants.{Local, Heap}
 use Rattle.source_meaning.specs.declared.values.Cell.{Cell}
 use Rattle.source_meaning.specs.declared.values.Ending.TheVariants.{Exited, Reported, Trapped, Outside, Cut}
 use Rattle.source_meaning.specs.Objects.{Object, Cells, cleared, copied, all_set, ended_in}
-use Rattle.source_meaning.specs.Worlds.{World, Does, Mark, Moved, noted, ended, all_ended, is_heap, live_blocks, heap_blocks}
+use Rattle.source_meaning.specs.Worlds.{World, Does, Mark, Moved, noted, made, ended, all_ended, is_heap, live_blocks, heap_blocks}
 use Rattle.source_meaning.specs.Moves.{move}
 use Rattle.source_meaning.specs.Accesses.{access, load, store}
 use Rattle.source_meaning.specs.Comparisons.{same, ordered, elements_between, truth}
-use Rattle.source_meaning.specs.Accounts.{object_of, all_made, free}
+use Rattle.source_meaning.specs.Accounts.{object_of, all_made, allocate, free}
 use Rattle.source_meaning.specs.Copies.{span, initialize, with_bytes as counted}
-use Rattle.flat_code.specs.World.{Memory, Words, FWorld, read, with_bytes, bytes_of, zeroed}
+use Rattle.flat_code.specs.World.{Memory, Words, FWorld, FPoint, point as at_point, put, read, with_bytes, bytes_of, zeroed}
 use Rattle.flat_code.specs.World.{Ending as FlatEnding}
 use Rattle.flat_code.specs.Run.{refusal}
 use Rattle.flat_code.specs.Accounts as accounts
-use Rattle.flat_code.specs.Accounts.{make_all, end_all, heap_block}
+use Rattle.flat_code.specs.Accounts.{make, make_all, end_all, malloc, heap_block}
 use Rattle.flat_code.specs.Sequences.{may_be_loaded}
 use Rattle.injection.specs.Words.{word_of, word_of_value, byte_of}
 use Rattle.injection.specs.Memory.{IsLive, IsAccount, AreLaidOut, IsFree, IsPointer, IsValue, IsCell, Injects, SameValues}
@@ -309,6 +309,35 @@ pub record HasPlace (g n : ℕ) (os : List Object) : Type 0 where
 
 abbrev pub PlacesAreFree : Type 0
 PlacesAreFree = (g n : ℕ) (os : List Object) → 1 ≤ g → g ≤ 24 → n ≤ MOST_BYTES → InRegions os → HasPlace g n os
+
+-- no object is made: the null pointer, and 0
+pub record IsRefused (w : World) (to : ℕ) (u : FPoint) (v : Value) (x : World) (t : FPoint) : Type 0 where
+  pub world : x ≡ w
+  pub value : v ≡ Ptr Null
+  pub point : t ≡ put to 0 u
+
+-- an object is made, and a block: the pointer to its start, and its address
+pub record IsNew (g n : ℕ) (w : World) (to : ℕ) (u : FPoint) (v : Value) (x : World) (t : FPoint) : Type 0 where
+  pub base : ℕ
+  pub world : x ≡ made (heap_object g n base) w
+  pub value : v ≡ Ptr (To (length w.objects) (pos 0))
+  pub point : t ≡ put to base (at_point u.words (make (block_at base (exponent_of g n)) u.world))
+  pub word : word_of x.objects (To (length w.objects) (pos 0)) ≡ base
+  pub formed : IsPointer g x.objects (To (length w.objects) (pos 0))
+  pub keeps : Injects g x.objects x.cells t.world.memory
+  pub blocks : t.world.live ≡ live_blocks x.objects
+  pub heights : Heights x.objects w.stack
+  pub regions : InRegions x.objects
+  pub since : Since w.objects x.objects
+
+abbrev pub AllocatesAlike : (g n : ℕ) → World → (to : ℕ) → FPoint → FPoint → Does Value → Type 0
+AllocatesAlike g n w to u t (Goes v x) = IsRefused w to u v x t ⊎ IsNew g n w to u v x t
+AllocatesAlike g n w to u t (Ends ending x) = ⊥
+
+abbrev pub AllocationsAreOfBlocks : Type 0
+AllocationsAreOfBlocks =
+    (g n to : ℕ) (w : World) (u : FPoint) → 1 ≤ g → g ≤ 24 → Injects g w.objects w.cells u.world.memory → u.world.live ≡ live_blocks w.objects → Heights w.objects w.stack → InRegions w.objects
+    → AllocatesAlike g n w to u (malloc g to n u) (allocate g n w)
 
 -- a live object of the heap ends by the pointer to its start, whose word is the address of its block
 pub record Frees (w : World) (at : ℕ) (x : World) : Type 0 where

@@ -1,5 +1,5 @@
 //! What each operation on objects is on words and memory, for what stands on it.
-ghost use Rattle.injection.specs.Laws.{AccountsCompose, AccountsKeep, TrailsAppend, AccountsGrow, PointersAreOwned, OwnersHaveExponents, MovesAreMoved, AccessesAreFound, FoundLieInBlocks, SpansLieInObjects, LoadsAreReads, StoresAreWrites, InitializersAreWrites, ClearsAreZeros, CopiesAreBytes, SetsAreBytes, ComparisonsAreOfWords, TruthIsOfWords, MadeKeeps, EndedKeeps, PlacesKeep, PlacesAreFree, FreesAreOfBlocks, EntriesKeep, ExitsKeep, FramesAreAlike};
+ghost use Rattle.injection.specs.Laws.{AccountsCompose, AccountsKeep, TrailsAppend, AccountsGrow, PointersAreOwned, OwnersHaveExponents, MovesAreMoved, AccessesAreFound, FoundLieInBlocks, SpansLieInObjects, LoadsAreReads, StoresAreWrites, InitializersAreWrites, ClearsAreZeros, CopiesAreBytes, SetsAreBytes, ComparisonsAreOfWords, TruthIsOfWords, MadeKeeps, EndedKeeps, PlacesKeep, PlacesAreFree, AllocationsAreOfBlocks, FreesAreOfBlocks, EntriesKeep, ExitsKeep, FramesAreAlike};
 
 /// What objects keep over two parts of a run they keep over both.
 pub fn accounts_compose()
@@ -126,6 +126,15 @@ pub fn places_keep()
 /// A block has the same place beside the objects of the heap and beside all, and no live object is there.
 pub fn places_are_free()
     ensures { PlacesAreFree }
+{
+    buddy_heap::laws::place_is_least();
+    buddy_heap::laws::one_place();
+    size_table::laws::exponent_is_least();
+}
+
+/// An object is made in the heap just where its block is.
+pub fn allocations_are_of_blocks()
+    ensures { AllocationsAreOfBlocks }
 {
     buddy_heap::laws::place_is_least();
     buddy_heap::laws::one_place();
