@@ -1,23 +1,22 @@
 -- Objects that are made in the heap.
-use Rattle.std.proofs.Common.{◌≡◌, ◌⊎◌, ℕ, ◌+◌, ◌^◌, ◌<◌, ◌≤◌, Bool, true, false, cond, nat_lt, List, [], ◌∷◌, ◌++◌, length, Option, Some, None, slice_get, ℤ, pos, refl, sym, ap, ◌∙◌, subst, inl, inr, arith, true≢false, pow_pos}
+use Rattle.std.proofs.Common.{◌≡◌, ℕ, ◌+◌, ◌^◌, ◌<◌, ◌≤◌, Bool, true, false, cond, nat_lt, [], ◌∷◌, ◌++◌, Option, Some, None, pos, refl, sym, ap, ◌∙◌, subst, inl, inr, arith, true≢false, pow_pos}
 use Rattle.std.proofs.lemmas.Bool.Decides.{nat_tests}
-use Rattle.bb_words.specs.Answers.{Goes, Ends}
+use Rattle.bb_words.specs.Answers.{Goes}
 use Rattle.marked_ptr.specs.Marked.{word_at}
-use Rattle.size_table.specs.declared.memory_map.TheConstants.{HEAP_START, MOST_BYTES}
+use Rattle.size_table.specs.declared.memory_map.TheConstants.{MOST_BYTES}
 use Rattle.size_table.specs.Blocks.{block_at}
 use Rattle.size_table.specs.Pads.{exponent_of}
 use Rattle.buddy_heap.specs.Places.{place_of}
-use Rattle.source_meaning.specs.declared.values.Pointer.TheVariants.{Null, To}
+use Rattle.source_meaning.specs.declared.values.Pointer.TheVariants.{Null}
 use Rattle.source_meaning.specs.declared.values.Value.TheVariants.{Ptr}
-use Rattle.source_meaning.specs.Objects.{Object}
-use Rattle.source_meaning.specs.Worlds.{World, made, live_blocks, heap_blocks}
+use Rattle.source_meaning.specs.Worlds.{World, live_blocks, heap_blocks}
 use Rattle.source_meaning.specs.Accounts.{allocated_at, allocate}
 use Rattle.flat_code.specs.World.{FPoint, put, choose}
 use Rattle.flat_code.specs.Accounts.{allot, malloc}
 use Rattle.injection.specs.Words.{word_in}
 use Rattle.injection.specs.Memory.{IsPointerIn, Injects}
 use Rattle.injection.specs.Worlds.{Heights, InRegions}
-use Rattle.injection.specs.Laws.{heap_object, PlacesAreFree, IsRefused, IsNew, AllocatesAlike}
+use Rattle.injection.specs.Laws.{heap_object, PlacesAreFree, AllocatesAlike}
 use Rattle.injection.proofs.Accounts.{since_made}
 use Rattle.injection.proofs.Blocks.{live_blocks_made}
 use Rattle.injection.proofs.Frames.{get_next}
@@ -25,7 +24,6 @@ use Rattle.injection.proofs.Objects.{made_keeps}
 use Rattle.injection.proofs.Regions.{heights_made, heap_made}
 
 module _ (places : PlacesAreFree) (g n to : ℕ) (w : World) (u : FPoint) (slot : 1 ≤ g) (small : g ≤ 24) (h : Injects g w.objects w.cells u.world.memory) (live : u.world.live ≡ live_blocks w.objects) (heights : Heights w.objects w.stack) (regions : InRegions w.objects) where
-
   refused : AllocatesAlike g n w to u (put to 0 u) (Goes (Ptr Null) w)
   refused = inl (record { world = refl; value = refl; point = refl })
 
@@ -34,6 +32,7 @@ module _ (places : PlacesAreFree) (g n to : ℕ) (w : World) (u : FPoint) (slot 
     where
       yes : (a c : ℕ) → a < c → nat_lt a c ≡ true
       yes a c q = grind (arith, nat_tests)
+
       at : (s : Bool) → s ≡ true → cond s (b + 0) (2147483648 + (b + 0)) ≡ b
       at true q = omega arith
       at false q = absurd (true≢false (sym q))
@@ -57,13 +56,15 @@ module _ (places : PlacesAreFree) (g n to : ℕ) (w : World) (u : FPoint) (slot 
         blocks = ap (λ bs. bs ++ block_at base (exponent_of g n) ∷ []) live ∙ sym (live_blocks_made w.objects o refl);
         heights = heights_made w.objects o w.stack heights (let t = heights.top in omega (arith, t, low));
         regions = heap_made w.objects o regions refl low;
-        since = since_made w.objects o low })
+        since = since_made w.objects o low;
+      })
 
   tested : AllocatesAlike g n w to u (malloc g to n u) (allocate g n w)
   tested = by (nat_lt 16777216 n) refl
     where
       was : nat_lt 16777216 n ≡ false → n ≤ 16777216
       was e = grind (arith, nat_tests)
+
       by : (t : Bool) → nat_lt 16777216 n ≡ t → AllocatesAlike g n w to u (choose t (λ v. put to 0 v) (λ v. allot to (exponent_of g n) (place_of v.world.live (exponent_of g n)) v) u) (cond t (Goes (Ptr Null) w) (allocated_at g n (place_of (heap_blocks w.objects) (exponent_of g n)) w))
       by true e = refused
       by false e =

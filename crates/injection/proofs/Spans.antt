@@ -1,6 +1,6 @@
 -- Bytes that are accessed, one range or another, lie in objects and their blocks.
-use Rattle.std.proofs.Common.{◌≡◌, ◌⊎◌, ℕ, zero, suc, ◌+◌, ◌-◌, ◌^◌, ◌<◌, ◌≤◌, Bool, true, false, cond, nat_lt, List, [], ◌∷◌, Option, Some, None, slice_get, ℤ, pos, negsuc, ◌+ℤ◌, refl, sym, ap, ◌∙◌, subst, inl, inr, arith, true≢false, w32}
-use Rattle.std.proofs.lemmas.Option.{same_Some, none-some}
+use Rattle.std.proofs.Common.{◌≡◌, ℕ, ◌+◌, ◌-◌, ◌^◌, ◌<◌, ◌≤◌, Bool, true, false, cond, nat_lt, List, [], ◌∷◌, slice_get, pos, ◌+ℤ◌, refl, sym, ap, ◌∙◌, subst, inl, inr, arith, w32}
+use Rattle.std.proofs.lemmas.Option.{same_Some}
 use Rattle.std.proofs.lemmas.Bool.Decides.{nat_tests}
 use Rattle.std.proofs.lemmas.Int.{to_z_pos}
 use Rattle.bb_watch.specs.Safety.{LieIn}
@@ -8,20 +8,19 @@ use Rattle.bb_words.specs.Answers.{Goes, Ends, and_then}
 use Rattle.bb_words.specs.Numbers.{signed}
 use Rattle.bb_words.specs.declared.kinds.ReportKind.TheVariants.{Bounds}
 use Rattle.bb_words.specs.declared.steps.Width.TheVariants as width
-use Rattle.size_table.specs.declared.memory_map.TheConstants.{MOST_BYTES}
 use Rattle.size_table.specs.Blocks.{Block}
 use Rattle.source_meaning.specs.declared.values.Pointer.{Pointer}
-use Rattle.source_meaning.specs.declared.values.Pointer.TheVariants.{Null, To}
+use Rattle.source_meaning.specs.declared.values.Pointer.TheVariants.{To}
 use Rattle.source_meaning.specs.declared.values.OutsideCause.TheVariants.{Dead}
-use Rattle.source_meaning.specs.declared.values.Ending.TheVariants.{Exited, Reported, Trapped, Outside, Cut}
+use Rattle.source_meaning.specs.declared.values.Ending.TheVariants.{Reported}
 use Rattle.source_meaning.specs.Objects.{Object}
 use Rattle.source_meaning.specs.Worlds.{World, Does, outside, Moved, noted, live_blocks}
 use Rattle.source_meaning.specs.Moves.{is_within, move_in, move}
-use Rattle.source_meaning.specs.Accesses.{access, touch}
+use Rattle.source_meaning.specs.Accesses.{touch}
 use Rattle.source_meaning.specs.Copies.{spanned, span}
 use Rattle.injection.specs.Words.{word_of}
 use Rattle.injection.specs.Memory.{IsLive, AreLaidOut}
-use Rattle.injection.specs.Laws.{Found, AccessesAlike, IsSpanned, SpansIfAny}
+use Rattle.injection.specs.Laws.{Found, AccessesAlike, SpansIfAny}
 use Rattle.injection.proofs.Access.{accesses_alike}
 use Rattle.injection.proofs.Blocks.{IsAmong, block_of, among_live}
 
@@ -40,7 +39,6 @@ found_lie_in g os size at k i out f =
 -- ---- Spans
 
 module _ (g site line n : ℕ) (w : World) (two : 2 ≤ g) (one : 1 ≤ n) (most : n ≤ 16777216) (out : AreLaidOut g w.objects) where
-
   distance_is : signed (n - 1) ≡ pos (n - 1)
   distance_is = to_z_pos w32 (n - 1) (let q : n - 1 < 2 ^ 31 = omega (arith, most) in q)
 
@@ -61,6 +59,7 @@ module _ (g site line n : ℕ) (w : World) (two : 2 ≤ g) (one : 1 ≤ n) (most
     where
       number : To place.0 (pos place.1) ≡ To first.0 (pos (first.1 + (n - 1))) → place.0 ≡ first.0
       number e = cc
+
       offset : To place.0 (pos place.1) ≡ To first.0 (pos (first.1 + (n - 1))) → place.1 ≡ first.1 + (n - 1)
       offset e = cc
 
@@ -76,6 +75,7 @@ module _ (g site line n : ℕ) (w : World) (two : 2 ≤ g) (one : 1 ≤ n) (most
       by_reach true =
           let x = noted (Moved site (To first.0 (pos first.1)) (To first.0 (pos (first.1 + (n - 1))))) w in
           last_touched (To first.0 (pos first.1)) first o x _ l refl refl (accesses_alike g width.Byte (To first.0 (pos (first.1 + (n - 1)))) x two out)
+
       by : (t : Bool) → o.live ≡ t → SpansIfAny site n w (To first.0 (pos first.1)) (and_then (cond t (cond (is_within g o.exponent (pos first.1 +ℤ pos (n - 1))) (Goes (To first.0 (pos first.1 +ℤ pos (n - 1))) (noted (Moved site (To first.0 (pos first.1)) (To first.0 (pos first.1 +ℤ pos (n - 1)))) w)) (Ends (Reported Bounds line) w)) (outside Dead w)) (λ last w1. and_then (touch last w1) (λ b. Goes first)))
       by false e = tt
       by true e = by_reach (is_within g o.exponent (pos (first.1 + (n - 1))))
@@ -90,6 +90,7 @@ spans g site line n q w two one out = by (nat_lt 16777216 n) refl
   where
     small : nat_lt 16777216 n ≡ false → n ≤ 16777216
     small e = grind (arith, nat_tests)
+
     by : (t : Bool) → nat_lt 16777216 n ≡ t → SpansIfAny site n w q (cond t (Ends (Reported Bounds line) w) (and_then (touch q w) (spanned g site line n q)))
     by true e = tt
     by false e = first_touched g site line n w two one (small e) out q (touch q w) (accesses_alike g width.Byte q w two out)
