@@ -14,3 +14,4 @@ pub mod Frames
 pub mod Layouts
 pub mod Spans
 pub mod Heap
+pub mod Says

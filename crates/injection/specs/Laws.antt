@@ -33,6 +33,7 @@ use Rattle.source_meaning.specs.Accesses.{access, load, store}
 use Rattle.source_meaning.specs.Comparisons.{same, ordered, elements_between, truth}
 use Rattle.source_meaning.specs.Accounts.{object_of, all_made, allocate, free}
 use Rattle.source_meaning.specs.Copies.{span, initialize, with_bytes as counted}
+use Rattle.flat_code.specs.Told.{Stamped, tells, output_of, trail_of}
 use Rattle.flat_code.specs.World.{Memory, Words, FWorld, FPoint, point as at_point, put, read, with_bytes, bytes_of, zeroed}
 use Rattle.flat_code.specs.World.{Ending as FlatEnding}
 use Rattle.flat_code.specs.Run.{refusal}
@@ -41,7 +42,7 @@ use Rattle.flat_code.specs.Accounts.{make, make_all, end_all, malloc, heap_block
 use Rattle.flat_code.specs.Sequences.{may_be_loaded}
 use Rattle.injection.specs.Words.{word_of, word_of_value, byte_of}
 use Rattle.injection.specs.Memory.{IsLive, IsAccount, AreLaidOut, IsFree, IsPointer, IsValue, IsCell, Injects, SameValues}
-use Rattle.injection.specs.Trail.{SafeSites, image_trail, TrailIsNamed}
+use Rattle.injection.specs.Trail.{SafeSites, image_trail, TrailIsNamed, Says}
 use Rattle.injection.specs.Worlds.{Accounted, Stays, Since, Heights, InRegions}
 use Rattle.injection.specs.Copies.{copied_bytes, set_bytes}
 
@@ -68,6 +69,16 @@ pub record AccountsKeep : Type 0 where
 pub record TrailsAppend : Type 0 where
   pub named : (g : ℕ) (os : List Object) (xs ys : List Mark) → TrailIsNamed g os xs → TrailIsNamed g os ys → TrailIsNamed g os (xs ++ ys)
   pub image : (safe : SafeSites) (os : List Object) (xs ys : List Mark) → image_trail safe os (xs ++ ys) ≡ image_trail safe os xs ++ image_trail safe os ys
+
+-- What was told goes on to say what the world does, when more is told.
+pub record SaysKeep : Type 0 where
+  pub quiet : (safe : SafeSites) (w : World) (told more : List Stamped) → Says safe w told → output_of (tells more) ≡ [] → trail_of (tells more) ≡ [] → Says safe w (told ++ more)
+  pub written : (safe : SafeSites) (w : World) (byte : ℕ) (told more : List Stamped) → Says safe w told → output_of (tells more) ≡ byte ∷ [] → trail_of (tells more) ≡ []
+      → Says safe (record w { output = w.output ++ byte ∷ [] }) (told ++ more)
+  pub marked : (safe : SafeSites) (w : World) (mark : Mark) (told more : List Stamped) → Says safe w told → output_of (tells more) ≡ [] → trail_of (tells more) ≡ image_trail safe w.objects (mark ∷ [])
+      → Says safe (noted mark w) (told ++ more)
+  pub accounted : (g : ℕ) (safe : SafeSites) (w x : World) (told : List Stamped) → Accounted w.objects x.objects → TrailIsNamed g w.objects w.trail → x.trail ≡ w.trail → x.output ≡ w.output
+      → Says safe w told → Says safe x told
 
 -- Objects that are made come after the others; one that ends leaves its account.
 pub record AccountsGrow : Type 0 where

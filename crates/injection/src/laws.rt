@@ -1,5 +1,5 @@
 //! What each operation on objects is on words and memory, for what stands on it.
-ghost use Rattle.injection.specs.Laws.{AccountsCompose, AccountsKeep, TrailsAppend, AccountsGrow, PointersAreOwned, OwnersHaveExponents, MovesAreMoved, AccessesAreFound, FoundLieInBlocks, SpansLieInObjects, LoadsAreReads, StoresAreWrites, InitializersAreWrites, ClearsAreZeros, CopiesAreBytes, SetsAreBytes, ComparisonsAreOfWords, TruthIsOfWords, MadeKeeps, EndedKeeps, PlacesKeep, PlacesAreFree, AllocationsAreOfBlocks, FreesAreOfBlocks, EntriesKeep, ExitsKeep, FramesAreAlike};
+ghost use Rattle.injection.specs.Laws.{AccountsCompose, AccountsKeep, TrailsAppend, SaysKeep, AccountsGrow, PointersAreOwned, OwnersHaveExponents, MovesAreMoved, AccessesAreFound, FoundLieInBlocks, SpansLieInObjects, LoadsAreReads, StoresAreWrites, InitializersAreWrites, ClearsAreZeros, CopiesAreBytes, SetsAreBytes, ComparisonsAreOfWords, TruthIsOfWords, MadeKeeps, EndedKeeps, PlacesKeep, PlacesAreFree, AllocationsAreOfBlocks, FreesAreOfBlocks, EntriesKeep, ExitsKeep, FramesAreAlike};
 
 /// What objects keep over two parts of a run they keep over both.
 pub fn accounts_compose()
@@ -15,6 +15,15 @@ pub fn accounts_keep()
 pub fn trails_append()
     ensures { TrailsAppend }
 {}
+
+/// What was told goes on to say what a run leaves behind.
+pub fn says_keep()
+    ensures { SaysKeep }
+{
+    flat_code::laws::tells_append();
+    flat_code::laws::output_appends();
+    flat_code::laws::trail_appends();
+}
 
 /// Objects that are made or end leave the accounts of all others, and their own.
 pub fn accounts_grow()
