@@ -1,6 +1,5 @@
 -- Accesses of words find what accesses of objects find.
 use Rattle.std.proofs.Common.{◌≡◌, ℕ, suc, ◌+◌, ◌*◌, ◌-◌, ◌/◌, ◌%◌, ◌≤◌, ◌<◌, ◌^◌, Bool, true, false, Option, Some, None, slice_get, refl, sym, ap, ◌∙◌, arith, cond, nat_lt, nat_le, ◌==◌, ℤ, pos, negsuc, true≢false}
-use Rattle.std.proofs.lemmas.Bool.Decides.{nat_tests}
 use Rattle.std.proofs.lemmas.Nat.{pow-add, div-add-mod'}
 use Rattle.bb_words.specs.Answers.{Goes, Ends}
 use Rattle.bb_words.specs.Steps.{size_of_width}
@@ -21,6 +20,7 @@ use Rattle.flat_code.specs.Run.{refusal}
 use Rattle.injection.specs.Words.{word_in, word_of}
 use Rattle.injection.specs.Memory.{IsLive, AreLaidOut}
 use Rattle.injection.specs.Laws.{AccessesAlike}
+use Rattle.injection.proofs.Tests.{no_lt, no_le, yes_le, was_lt, was_le}
 
 -- ---- The tests of an address
 
@@ -35,15 +35,6 @@ second : {A : Type 0} (t1 t2 : Bool) (a b r : A) → t1 ≡ false → t2 ≡ tru
 second true t2 a b r h1 h2 = absurd (true≢false h1)
 second false false a b r h1 h2 = absurd (true≢false (sym h2))
 second false true a b r h1 h2 = refl
-
-no_lt : (a b : ℕ) → b ≤ a → nat_lt a b ≡ false
-no_lt a b h = grind (arith, nat_tests)
-
-no_le : (a b : ℕ) → b < a → nat_le a b ≡ false
-no_le a b h = grind (arith, nat_tests)
-
-yes_le : (a b : ℕ) → a ≤ b → nat_le a b ≡ true
-yes_le a b h = grind (arith, nat_tests)
 
 pub refused_marked : (at size : ℕ) → 2147483648 ≤ at → refusal at size ≡ Some (FlatEnding.Trapped trap.Marked)
 refused_marked at size h = second (nat_lt at 4096) (nat_le 2147483648 at) _ _ _ (no_lt at 4096 (omega arith)) (yes_le 2147483648 at h)
@@ -72,15 +63,6 @@ same_rest width.Half b c i f = omega arith
 same_rest width.SignedHalf b c i f = omega arith
 same_rest width.Word b c i f = omega arith
 same_rest width.Pointer b c i f = omega arith
-
-was_lt : (a b : ℕ) → nat_lt a b ≡ true → a < b
-was_lt a b h = grind (arith, nat_tests)
-
-not_lt : (a b : ℕ) → nat_lt a b ≡ false → b ≤ a
-not_lt a b h = grind (arith, nat_tests)
-
-was_le : (a b : ℕ) → nat_le a b ≡ true → a ≤ b
-was_le a b h = grind (arith, nat_tests)
 
 module _ (g : ℕ) (wide : Width) (w : World) (two : 2 ≤ g) (k : ℕ) (o : Object) (l : IsLive w.objects k o) (p : IsPlaced g o.base o.exponent) where
   at_place : (i : ℕ) → AccessesAlike w (To k (pos i)) (size_of_width wide) (word_at o.base o.exponent (pos i)) (access_at (size_of_width wide) k o i w)

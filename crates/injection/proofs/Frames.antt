@@ -16,15 +16,11 @@ use Rattle.flat_code.specs.Accounts.{make, end, make_all, end_all}
 use Rattle.injection.specs.Memory.{IsLive, IsFree, Injects}
 use Rattle.injection.specs.Worlds.{Accounted, Stays, Since, Heights, InRegions}
 use Rattle.injection.specs.Laws.{exponents, frame_objects, IsLaid, Entered, Left}
-use Rattle.injection.proofs.Lists.{get_old}
+use Rattle.injection.proofs.Lists.{get_old, append_nothing}
 use Rattle.injection.proofs.Accounts.{accounted_same, accounted_then, accounted_more, accounted_ended, live_made, live_before, live_after}
 use Rattle.injection.proofs.Objects.{made_keeps, ended_keeps}
 use Rattle.injection.proofs.Blocks.{live_blocks_made, live_blocks_ended}
 use Rattle.injection.proofs.Regions.{heights_made, other_made, regions_ended}
-
-append_nothing : {A : Type 0} (xs : List A) → xs ++ [] ≡ xs
-append_nothing [] = refl
-append_nothing (x ∷ xs) = ap (λ ys. x ∷ ys) (append_nothing xs)
 
 append_next : {A : Type 0} (xs : List A) (y : A) (ys : List A) → (xs ++ y ∷ []) ++ ys ≡ xs ++ y ∷ ys
 append_next [] y ys = refl

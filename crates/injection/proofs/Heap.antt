@@ -1,8 +1,7 @@
 -- Objects that are made in the heap.
-use Rattle.std.proofs.Common.{◌≡◌, ℕ, ◌+◌, ◌^◌, ◌<◌, ◌≤◌, Bool, true, false, cond, nat_lt, [], ◌∷◌, ◌++◌, Option, Some, None, pos, refl, sym, ap, ◌∙◌, subst, inl, inr, arith, true≢false, pow_pos}
+use Rattle.std.proofs.Common.{◌≡◌, ℕ, ◌≤◌, Bool, true, false, cond, nat_lt, [], ◌∷◌, ◌++◌, Option, Some, None, pos, refl, sym, ap, ◌∙◌, subst, inl, inr, arith, pow_pos}
 use Rattle.std.proofs.lemmas.Bool.Decides.{nat_tests}
 use Rattle.bb_words.specs.Answers.{Goes}
-use Rattle.marked_ptr.specs.Marked.{word_at}
 use Rattle.size_table.specs.declared.memory_map.TheConstants.{MOST_BYTES}
 use Rattle.size_table.specs.Blocks.{block_at}
 use Rattle.size_table.specs.Pads.{exponent_of}
@@ -22,20 +21,11 @@ use Rattle.injection.proofs.Blocks.{live_blocks_made}
 use Rattle.injection.proofs.Frames.{get_next}
 use Rattle.injection.proofs.Objects.{made_keeps}
 use Rattle.injection.proofs.Regions.{heights_made, heap_made}
+use Rattle.injection.proofs.Tests.{start_word}
 
 module _ (places : PlacesAreFree) (g n to : ℕ) (w : World) (u : FPoint) (slot : 1 ≤ g) (small : g ≤ 24) (h : Injects g w.objects w.cells u.world.memory) (live : u.world.live ≡ live_blocks w.objects) (heights : Heights w.objects w.stack) (regions : InRegions w.objects) where
   refused : AllocatesAlike g n w to u (put to 0 u) (Goes (Ptr Null) w)
   refused = inl (record { world = refl; value = refl; point = refl })
-
-  start_word : (b e : ℕ) → word_at b e (pos 0) ≡ b
-  start_word b e = at (nat_lt 0 (2 ^ e)) (yes 0 (2 ^ e) (pow_pos e))
-    where
-      yes : (a c : ℕ) → a < c → nat_lt a c ≡ true
-      yes a c q = grind (arith, nat_tests)
-
-      at : (s : Bool) → s ≡ true → cond s (b + 0) (2147483648 + (b + 0)) ≡ b
-      at true q = omega arith
-      at false q = absurd (true≢false (sym q))
 
   at_place : n ≤ MOST_BYTES → (x : Option ℕ) → place_of (live_blocks w.objects) (exponent_of g n) ≡ x → AllocatesAlike g n w to u (allot to (exponent_of g n) x u) (allocated_at g n x w)
   at_place most None e = refused

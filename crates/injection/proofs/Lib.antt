@@ -1,3 +1,4 @@
+pub mod Tests
 pub mod Lists
 pub mod Accounts
 pub mod Stores

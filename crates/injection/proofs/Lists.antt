@@ -24,3 +24,7 @@ get_pushed [] y x zero h = inr (refl, sym (same_Some _ _ h))
 get_pushed [] y x (suc i) h = cc
 get_pushed (z ∷ zs) y x zero h = inl h
 get_pushed (z ∷ zs) y x (suc i) h = elim (get_pushed zs y x i h) [ inl l ↦ inl l | inr r ↦ inr (ap suc r.0, r.1) ]
+
+pub append_nothing : {A : Type 0} (xs : List A) → xs ++ [] ≡ xs
+append_nothing [] = refl
+append_nothing (x ∷ xs) = ap (λ ys. x ∷ ys) (append_nothing xs)

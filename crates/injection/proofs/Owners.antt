@@ -23,6 +23,7 @@ use Rattle.injection.specs.Words.{word_in, word_of}
 use Rattle.injection.specs.Memory.{IsLive, AreLaidOut, IsPointerIn, IsPointer}
 use Rattle.injection.specs.Laws.{IsOwned, MovesAlike}
 use Rattle.injection.proofs.Blocks.{byte_among, disjoint_live, among_live, laid_out_rest, block_of}
+use Rattle.injection.proofs.Tests.{no_lt, was_lt, not_lt}
 
 zero_over : (p : ℕ) → 0 < p → 0 / p ≡ 0
 zero_over p h = ap (λ x. x / p) (let q : 0 ≡ 0 * p + 0 = omega arith in q) ∙ div-mul-add 0 p 0 h
@@ -108,18 +109,6 @@ pub null_byte : (g : ℕ) (os : List Object) (slot : ℕ) → AreLaidOut g os �
 null_byte g os slot out e = ap (byte_of g (live_blocks os)) (sym (same_Some (0 / 2 ^ g) slot e) ∙ zero_over (2 ^ g) (pow_pos g)) ∙ nothing_low g os out
 
 -- ---- Moves
-
-yes_lt : (a b : ℕ) → a < b → nat_lt a b ≡ true
-yes_lt a b h = grind (arith, nat_tests)
-
-no_lt : (a b : ℕ) → b ≤ a → nat_lt a b ≡ false
-no_lt a b h = grind (arith, nat_tests)
-
-was_lt : (a b : ℕ) → nat_lt a b ≡ true → a < b
-was_lt a b h = grind (arith, nat_tests)
-
-not_lt : (a b : ℕ) → nat_lt a b ≡ false → b ≤ a
-not_lt a b h = grind (arith, nat_tests)
 
 in_reach : (g e : ℕ) (z : ℤ) → is_within g e z ≡ true → IsInReach g e z
 in_reach g e (pos n) h = was_lt n (2 ^ e + 2 ^ (g - 1)) h

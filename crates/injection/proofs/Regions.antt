@@ -27,6 +27,7 @@ use Rattle.injection.proofs.Accounts.{live_made, live_before}
 use Rattle.injection.proofs.Cells.{int_from, and_left, and_right}
 use Rattle.injection.proofs.Stores.{same_object}
 use Rattle.injection.proofs.Blocks.{IsAmong, block_of, misses_among, among_live, disjoint_live}
+use Rattle.injection.proofs.Tests.{start_word}
 
 -- ---- Heights and regions
 
@@ -184,20 +185,10 @@ module _ (nulls : WordsAreNotNull) (g line : ℕ) (w : World) (out : AreLaidOut 
       not_null : word_at o.base o.exponent z ≢ 0
       not_null = nulls g o.base o.exponent z (out.accounts k o l.there).placed r
 
-      start : (b e : ℕ) → word_at b e (pos 0) ≡ b
-      start b e = at (nat_lt 0 (2 ^ e)) (yes 0 (2 ^ e) (pow_pos e))
-        where
-          yes : (a c : ℕ) → a < c → nat_lt a c ≡ true
-          yes a c q = grind (arith, nat_tests)
-
-          at : (s : Bool) → s ≡ true → cond s (b + 0) (2147483648 + (b + 0)) ≡ b
-          at true q = omega arith
-          at false q = absurd (true≢false (sym q))
-
       by : (t : Bool) → (is_heap o.kind && same_int z (pos 0)) ≡ t → FreesAlike line w (word_at o.base o.exponent z) (cond t (Goes (Num 0) (ended k w)) (Ends (Reported report.BadFree line) w))
       by true e =
           let zero_offset : z ≡ pos 0 = int_from z (pos 0) (and_right (is_heap o.kind) _ e) in
-          let base : word_at o.base o.exponent z ≡ o.base = ap (word_at o.base o.exponent) zero_offset ∙ start o.base o.exponent in
+          let base : word_at o.base o.exponent z ≡ o.base = ap (word_at o.base o.exponent) zero_offset ∙ start_word o.base o.exponent in
           let low = h.heap k o l (and_left (is_heap o.kind) _ e) in (
             refl,
             inr (record {

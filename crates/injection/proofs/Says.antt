@@ -1,20 +1,14 @@
 -- What was told says what a run leaves behind, also when more is told.
-use Rattle.std.proofs.Common.{◌≡◌, ℕ, List, [], ◌∷◌, ◌++◌, refl, sym, ap, ◌∙◌}
-use Rattle.source_meaning.specs.Worlds.{World, Mark, noted}
+use Rattle.std.proofs.Common.{◌≡◌, ℕ, List, [], ◌∷◌, ◌++◌, sym, ap, ◌∙◌}
 use Rattle.flat_code.specs.Told.{Stamped, tells, output_of, trail_of}
 use Rattle.flat_code.specs.Told as Told
 use Rattle.flat_code.specs.Laws.{TellsAppend, OutputAppends, TrailAppends}
-use Rattle.injection.specs.Worlds.{Accounted}
-use Rattle.injection.specs.Trail.{SafeSites, image_trail, TrailIsNamed, Says}
+use Rattle.injection.specs.Trail.{image_trail}
 use Rattle.injection.specs.Laws.{SaysKeep}
 use Rattle.injection.proofs.Accounts.{image_append, image_kept}
-
-append_nothing : {A : Type 0} (xs : List A) → xs ++ [] ≡ xs
-append_nothing [] = refl
-append_nothing (x ∷ xs) = ap (λ ys. x ∷ ys) (append_nothing xs)
+use Rattle.injection.proofs.Lists.{append_nothing}
 
 module _ (tells_append : TellsAppend) (output_appends : OutputAppends) (trail_appends : TrailAppends) where
-
   output_more : (told more : List Stamped) (a b : List ℕ) → output_of (tells told) ≡ a → output_of (tells more) ≡ b → output_of (tells (told ++ more)) ≡ a ++ b
   output_more told more a b e f = ap output_of (tells_append told more) ∙ output_appends (tells told) (tells more) ∙ ap (λ x. x ++ output_of (tells more)) e ∙ ap (λ y. a ++ y) f
 
@@ -25,13 +19,18 @@ module _ (tells_append : TellsAppend) (output_appends : OutputAppends) (trail_ap
   says_keep = record {
     quiet = λ safe w told more s o t. record {
       said = output_more told more _ [] s.said o ∙ append_nothing w.output;
-      went = trail_more told more _ [] s.went t ∙ append_nothing (image_trail safe w.objects w.trail) };
+      went = trail_more told more _ [] s.went t ∙ append_nothing (image_trail safe w.objects w.trail);
+    };
     written = λ safe w byte told more s o t. record {
       said = output_more told more _ (byte ∷ []) s.said o;
-      went = trail_more told more _ [] s.went t ∙ append_nothing (image_trail safe w.objects w.trail) };
+      went = trail_more told more _ [] s.went t ∙ append_nothing (image_trail safe w.objects w.trail);
+    };
     marked = λ safe w mark told more s o t. record {
       said = output_more told more _ [] s.said o ∙ append_nothing w.output;
-      went = trail_more told more _ _ s.went t ∙ sym (image_append safe w.objects w.trail (mark ∷ [])) };
+      went = trail_more told more _ _ s.went t ∙ sym (image_append safe w.objects w.trail (mark ∷ []));
+    };
     accounted = λ g safe w x told h named e f s. record {
       said = s.said ∙ sym f;
-      went = s.went ∙ sym (ap (image_trail safe x.objects) e ∙ image_kept g safe w.objects x.objects w.trail h named) } }
+      went = s.went ∙ sym (ap (image_trail safe x.objects) e ∙ image_kept g safe w.objects x.objects w.trail h named);
+    };
+  }
