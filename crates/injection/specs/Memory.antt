@@ -28,6 +28,10 @@ pub record AreLaidOut (g : ℕ) (os : List Object) : Type 0 where
   pub accounts : (k : ℕ) (o : Object) → slice_get os k ≡ Some o → IsAccount g o
   pub apart : (j k : ℕ) (o p : Object) → IsLive os j o → IsLive os k p → j ≢ k → AreApart o p
 
+-- an object whose padded block meets that of no live one
+pub record IsFree (os : List Object) (n : Object) : Type 0 where
+  pub apart : (k : ℕ) (o : Object) → IsLive os k o → AreApart n o
+
 -- A pointer is null, or it points into an object that there is or was, or less than half a slot outside its block.
 abbrev pub IsPointerIn : (g : ℕ) → Option Object → ℤ → Type 0
 IsPointerIn g None z = ⊥

@@ -1,8 +1,8 @@
 -- When a world of words stands for a world of objects.
-use Rattle.std.specs.Prelude.{◌≡◌, ◌⊎◌, ℕ, ◌+◌, ◌^◌, ◌<◌, ◌≤◌, List, Some, slice_get}
+use Rattle.std.specs.Prelude.{◌≡◌, ◌⊎◌, ℕ, ◌+◌, ◌^◌, ◌<◌, ◌≤◌, true, false, List, Some, slice_get}
 use Rattle.size_table.specs.declared.memory_map.TheConstants.{STACK_START, HEAP_START}
 use Rattle.source_meaning.specs.Objects.{Object}
-use Rattle.source_meaning.specs.Worlds.{World, live_blocks}
+use Rattle.source_meaning.specs.Worlds.{World, live_blocks, is_heap}
 use Rattle.flat_code.specs.World.{FWorld}
 use Rattle.injection.specs.Memory.{IsLive, Injects}
 use Rattle.injection.specs.Trail.{SafeSites, Says, TrailIsNamed}
@@ -27,6 +27,11 @@ pub record Heights (os : List Object) (stack : ℕ) : Type 0 where
   pub by : (k : ℕ) (o : Object) → IsLive os k o → (o.base + 2 ^ o.exponent ≤ STACK_START) ⊎ (stack ≤ o.base)
   pub top : stack ≤ HEAP_START
 
+-- the live objects of the heap lie in the heap, and all others below it
+pub record InRegions (os : List Object) : Type 0 where
+  pub heap : (k : ℕ) (o : Object) → IsLive os k o → is_heap o.kind ≡ true → HEAP_START ≤ o.base
+  pub others : (k : ℕ) (o : Object) → IsLive os k o → is_heap o.kind ≡ false → o.base + 2 ^ o.exponent ≤ HEAP_START
+
 -- ---- The relation
 
 -- Memory holds the live objects; the live blocks are theirs, in the order in which they were made; depth, stack number and
@@ -41,3 +46,4 @@ pub record Injection (g : ℕ) (safe : SafeSites) (w : World) (u : FWorld) : Typ
   pub says : Says safe w u.told
   pub named : TrailIsNamed g w.objects w.trail
   pub heights : Heights w.objects w.stack
+  pub regions : InRegions w.objects

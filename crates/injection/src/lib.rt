@@ -5,3 +5,5 @@
 //! that of CompCert's memory injections (Leroy and Blazy, "Formal verification of a C-like memory model", 2008), where each
 //! object comes to lie in a padded block of its own.
 #![tactic(auto)]
+
+pub mod laws;
