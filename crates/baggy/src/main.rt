@@ -4,27 +4,37 @@
 mod files;
 mod streams;
 
+ghost use Rattle.std.specs.Prelude.{◌≡◌, drop};
+ghost use Rattle.std.specs.Process.{exit_status};
+
+use baggy_tool::ending::Ended;
 use baggy_tool::run::baggy_run;
+use bb_outside::{Sink, SinkFailed};
 use files::DirShelf;
 use std::alloc::Global;
+use std::env;
+use std::io::{self, Stderr, Stdin, Stdout};
 use std::process::ExitCode;
-use std::rt::Env;
-use std::{env, io};
+use std::rt::{Env, Files};
 use streams::{StderrSink, StdinSource, StdoutSink};
 
 /// The status where the words can't be read: memory was wanting, or a word is no UTF-8.
 const NO_WORDS: u8 = 127;
 
+/// The line that is noted then.
+const NO_MEMORY: &[u8] = b"baggy: no memory\n";
+
 fn main(rt: HostRuntime) -> ExitCode {
     let alloc = rt.alloc();
+    let mut notes = StderrSink::new(rt.stderr());
     let Ok(words) = words(alloc, &rt) else {
+        let _ = put_all(&mut notes, NO_MEMORY);
         return ExitCode::from(NO_WORDS);
     };
-    let mut shelf = DirShelf::new(&rt);
+    let mut shelf = DirShelf::new(alloc, &rt);
     let mut input = StdinSource::new(rt.stdin());
     let mut output = StdoutSink::new(rt.stdout());
-    let mut notes = StderrSink::new(rt.stderr());
-    let ended = baggy_run(
+    let ended = call(
         alloc,
         &words,
         &mut shelf,
@@ -32,14 +42,54 @@ fn main(rt: HostRuntime) -> ExitCode {
         &mut output,
         &mut notes,
     );
+    exit_code(&ended)
+}
+
+// Calls the tool. Each stream has a type of its own, so none stands for another.
+fn call<R: Files>(
+    alloc: Global,
+    words: &[String],
+    shelf: &mut DirShelf<'_, R>,
+    input: &mut StdinSource<Stdin>,
+    output: &mut StdoutSink<Stdout>,
+    notes: &mut StderrSink<Stderr>,
+) -> Ended {
+    baggy_run(alloc, words, shelf, input, output, notes)
+}
+
+// The status for the system.
+fn exit_code(ended: &Ended) -> ExitCode
+    ensures { exit_status result ≡ ended.now.status }
+{
     ExitCode::from(ended.status)
 }
 
 // The words after the program's name.
 fn words<R: Env + AllocGlobal>(alloc: Global, rt: &R) -> io::Result<Vec<String>> {
     let mut words = Vec::new(alloc);
-    for word in env::args(rt)?.skip(1) {
+    for word in env::args(rt)? {
         words.push(word)?;
     }
-    Ok(words)
+    Ok(after_name(words))
+}
+
+// All but the first.
+fn after_name(mut words: Vec<String>) -> Vec<String>
+    ensures { result.items ≡ drop 1 words.items }
+{
+    if !words.is_empty() {
+        let _name = words.remove(0);
+    }
+    words
+}
+
+// Writes the whole text, unless the sink fails.
+fn put_all<E: Sink>(notes: &mut E, text: &[u8]) -> Result<(), SinkFailed> {
+    let mut rest = text;
+    while !rest.is_empty() {
+        let count = notes.put(rest)?;
+        let (_, left) = rest.split_at(count);
+        rest = left;
+    }
+    Ok(())
 }

@@ -93,8 +93,34 @@ impl<W: Write> Sink for StdoutSink<W> {
     }
 }
 
-/// Standard error as a sink.
-pub type StderrSink<W> = StdoutSink<W>;
+/// Standard error, or another writer without a buffer, as a sink. It is a type of its own, so that no other stream is
+/// taken for it.
+#[derive(Drop)]
+pub struct StderrSink<W: Write> {
+    notes: StdoutSink<W>,
+}
+
+impl<W: Write> StderrSink<W> {
+    /// A sink that writes there.
+    pub fn new(output: W) -> StderrSink<W>
+        ensures written { ⟦<StderrSink<W> as Sink>⟧.written result ≡ W.contents output }
+        ensures faults { ⟦<StderrSink<W> as Sink>⟧.faults result ≡ 0 }
+    {
+        StderrSink {
+            notes: StdoutSink::new(output),
+        }
+    }
+}
+
+impl<W: Write> Sink for StderrSink<W> {
+    ghost written = { λ sink. W.contents sink.notes.output };
+
+    ghost faults = { λ sink. sink.notes.faults };
+
+    fn put(&mut self, piece: &[u8]) -> Result<usize, SinkFailed> {
+        self.notes.put(piece)
+    }
+}
 
 #[cfg(test)]
 mod tests {

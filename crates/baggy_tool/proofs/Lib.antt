@@ -10,3 +10,4 @@ pub mod Noting
 pub mod Machine
 pub mod Simulation
 pub mod Answering
+pub mod CommandLine

@@ -10,7 +10,7 @@ use Rattle.rv_machine.specs.State.{Core, register_of, gives}
 use Rattle.size_table.specs.Memory.{word_at}
 use Rattle.rv_machine.specs.Instruction.{Act, Goes, Asks, effect, core_step, core_events, event_of}
 use Rattle.rv_machine.specs.Environment.{World}
-use Rattle.rv_machine.specs.Laws.{EndingStays, InstructionDone, WordsStand, StepsAdd}
+use Rattle.rv_machine.specs.Laws.{EndingStays, InstructionDone, WordsStand, StepsAdd, ToldGrows, TableIsKept, SafeAtEnd}
 use Rattle.rv_machine.specs.Machine.{step, steps, acted}
 
 -- the laws of the machine that a sum's run rests on
@@ -19,6 +19,9 @@ pub record MachineLaws : Type 0 where
   pub stand : WordsStand
   pub add : StepsAdd
   pub stay : EndingStays
+  pub grow : ToldGrows
+  pub table : TableIsKept
+  pub safe : SafeAtEnd
 
 -- ---- Instructions one after another
 

@@ -1,5 +1,5 @@
 -- The machine on the words of a sum.
-use Rattle.std.proofs.Common.{◌≡◌, ◌≢◌, ℕ, ◌+◌, ◌-◌, ◌*◌, ◌/◌, ◌%◌, ◌^◌, ◌<◌, ◌≤◌, Bool, true, false, cond, ltb, leb, List, [], ◌∷◌, ◌++◌, length, get_or, set, Option, Some, None, refl, sym, ap, subst, ◌∙◌, arith, lit<, lit≤, append-nil, get_or-set_other, get_or-set_same, length-set}
+use Rattle.std.proofs.Common.{◌≡◌, ◌≢◌, ℕ, ◌+◌, ◌-◌, ◌*◌, ◌/◌, ◌%◌, ◌^◌, ◌<◌, ◌≤◌, Bool, true, false, cond, ltb, leb, List, [], ◌∷◌, ◌++◌, length, get_or, set, Option, Some, refl, sym, ap, subst, ◌∙◌, arith, lit<, lit≤, append-nil, get_or-set_other, get_or-set_same, length-set}
 use Rattle.std.specs.Prelude.{map, replicate, IsSome, is_some}
 use Rattle.bb_watch.specs.declared.event.Event.{Event}
 use Rattle.std.proofs.lemmas.Bool.Decides.{nat_tests}
@@ -204,9 +204,16 @@ unfolding calls
 exit_call c total input told e one is =
     ap (λ (w : World). w.machine.ending) (step_acts (world c input told) Asks refl e) ∙ rw (one, is) refl
 
+-- and tells nothing
+exit_quiet : (c : Core) (input : List ℕ) (told : List Tell) → core_step c ≡ Asks → register_of c 17 ≡ 1 → (step (world c input told)).told ≡ told
+unfolding calls
+exit_quiet c input told e one =
+    ap (λ (w : World). w.told) (step_acts (world c input told) Asks refl e) ∙ rw one refl
+
 -- n instructions lead to an exit with this status, without another environment call
 record ExitsIn (n status : ℕ) (w : World) : Type 0 where
   ends : (steps n w).machine.ending ≡ Some (Exited status)
+  quiet : (steps n w).told ≡ w.told
   only : OnlyExits n w
 
 -- before the call that exits there is no other
@@ -230,6 +237,7 @@ exit_runs laws m r pc total input told k low high h =
     let b : get_or r1 10 0 ≡ total = get_or-set_other r 17 10 _ 0 n ∙ k.total_is in
     record {
       ends = ap (λ (x : World). x.machine.ending) (sym (laws.add 1 1 w) ∙ ap (steps 1) e1.comes ∙ one_is (world c1 input told)) ∙ exit_call c1 total input told e2 a b;
+      quiet = ap (λ (x : World). x.told) (sym (laws.add 1 1 w) ∙ ap (steps 1) e1.comes ∙ one_is (world c1 input told)) ∙ exit_quiet c1 input told e2 a;
       only = only_then laws 1 1 w (world c1 input told) e1 (only_exit c1 input told a);
     }
 
@@ -268,6 +276,7 @@ image_runs laws image ss input h small few =
     let v = world (core_at (4096 + 12 * length ss) a.registers m) input [] in
     let all : ExitsIn (3 * length ss + 2) (sum_from 0 ss % 256) w0 = record {
       ends = ap (λ (x : World). x.machine.ending) (sym (laws.add (3 * length ss) 2 w0) ∙ ap (steps 2) a.run.comes) ∙ b.ends;
+      quiet = ap (λ (x : World). x.told) (sym (laws.add (3 * length ss) 2 w0) ∙ ap (steps 2) a.run.comes) ∙ b.quiet;
       only = only_then laws (3 * length ss) 2 w0 v a.run b.only;
     } in
     let same : w0 ≡ machine_after image input 0 = sym (steps_none (record { machine = start image; left = input; told = [] }) ∙ ap (λ (s : State). record { machine = s; left = input; told = [] }) (start_is image ss h)) in
@@ -300,3 +309,25 @@ image_only_exits laws image ss input n number h small few before = by (leb (3 * 
         let lt : n < 3 * length ss + 2 = grind (arith, nat_tests) in
         let r = image_runs laws image ss input h small few in
         r.only n number lt (subst (λ (w : World). IsBeforeCall number w.machine) (after_is image input n) before)
+
+front_empty : (xs ys : List Tell) → xs ++ ys ≡ [] → xs ≡ []
+front_empty [] ys h = refl
+front_empty (x ∷ xs) ys h = absurd (omega (arith, ap length h))
+
+start_told : (image : Image) (input : List ℕ) → (machine_after image input 0).told ≡ []
+start_told image input = ap (λ (w : World). w.told) (steps_none (record { machine = start image; left = input; told = [] }))
+
+-- it tells nothing
+pub image_is_quiet : MachineLaws → (image : Image) (ss : List Summand) (input : List ℕ) (n : ℕ) → IsCompiled ss image → AreSmall ss → length ss ≤ 200 → (machine_after image input n).told ≡ []
+image_is_quiet laws image ss input n h small few =
+    let last = 3 * length ss + 2 in
+    let w = machine_after image input 0 in
+    let r = image_runs laws image ss input h small few in
+    let end : (steps last w).told ≡ [] = r.quiet ∙ start_told image input in
+    let stay : steps (n + last) w ≡ steps last w = laws.stay (n + last) last w (some r.ends) (omega arith) in
+    let more = laws.grow n last w in
+    let none : (steps n w).told ++ more.0 ≡ [] = sym more.1 ∙ ap (λ (x : World). x.told) stay ∙ end in
+    ap (λ (x : World). x.told) (after_is image input n) ∙ front_empty (steps n w).told more.0 none
+  where
+    some : {o : Option Halt} {x : Halt} → o ≡ Some x → IsSome o
+    some e = ap is_some e

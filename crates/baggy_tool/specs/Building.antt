@@ -1,5 +1,8 @@
 -- What building an image and reading a file say.
-use Rattle.std.specs.Prelude.{◌≡◌, ℕ, ◌<◌, ◌≤◌, Vec, List, ◌++◌, length, take, drop}
+use Rattle.std.specs.Prelude.{◌≡◌, ℕ, ◌≤◌, Vec, List, ◌++◌, length, take, drop, Option, Some, None}
+use Rattle.baggy_tool.specs.declared.ending.Ending.{Ending}
+use Rattle.baggy_tool.specs.declared.ending.Ending.TheVariants.{NoFile, FileFault, NoMemory}
+use Rattle.baggy_tool.specs.Calls.{Streams, RunsTo, WritesTo}
 use Rattle.std.specs.declared.result.Result.{Result}
 use Rattle.std.specs.declared.result.Result.TheVariants.{Ok, Err}
 use Rattle.bb_outside.specs.Causes.{Rose}
@@ -7,34 +10,36 @@ use Rattle.bb_outside.specs.Files.{Told, Untold, Missing, Holds}
 use Rattle.rv_image.specs.declared.image.Image.{Image}
 use Rattle.baggy_tool.specs.declared.build.BuildError.{BuildError}
 use Rattle.baggy_tool.specs.declared.build.BuildError.TheVariants as build
-use Rattle.baggy_tool.specs.declared.ending.Refusal.TheVariants.{Source, NotBuilt}
-use Rattle.baggy_tool.specs.declared.ending.CompileError.TheVariants.{Lex, Memory}
-use Rattle.baggy_tool.specs.declared.ending.LexError.TheVariants.{TooLong}
 use Rattle.baggy_tool.specs.declared.form.Summand.{Summand}
 use Rattle.baggy_tool.specs.declared.reader.ReadError.{ReadError}
 use Rattle.baggy_tool.specs.declared.reader.ReadError.TheVariants as read
 use Rattle.baggy_tool.specs.Code.{IsCompiled}
 use Rattle.baggy_tool.specs.Files.{IsFile, IsAbsent}
-use Rattle.baggy_tool.specs.Form.{HasSummands, HasNoForm}
+use Rattle.baggy_tool.specs.Form.{HasSummands}
+use Rattle.baggy_tool.specs.Accepted.{Refuses, IsImageOf}
 
 -- the image is that of the text's sum, or the refusal is the text's
+abbrev pub BuildsSum : List ℕ → Result Image BuildError → Type 0
+BuildsSum text (Ok image) = (length text ≤ 1048576) × (summands : List Summand) × HasSummands text summands × IsCompiled summands image
+BuildsSum text (Err (build.Refused refusal)) = Refuses text refusal
+BuildsSum text (Err build.Memory) = Unit {0}
+
+-- the text is accepted with the program of the image, or it is refused so
 abbrev pub Builds : List ℕ → Result Image BuildError → Type 0
-Builds text (Ok image) = (length text ≤ 1048576) × (summands : List Summand) × HasSummands text summands × IsCompiled summands image
-Builds text (Err (build.Refused (Source (Lex (TooLong n))))) = (1048576 < length text) × (n ≡ length text)
-Builds text (Err (build.Refused (Source Memory))) = ⊥
-Builds text (Err (build.Refused NotBuilt)) = (length text ≤ 1048576) × HasNoForm text
+Builds text (Ok image) = IsImageOf text image
+Builds text (Err (build.Refused refusal)) = Refuses text refusal
 Builds text (Err build.Memory) = Unit {0}
 
 -- the text is the file's, or there is none, or the shelf failed
-abbrev pub FileRead : {A : Type 0} → Told → Result (Vec ℕ A) ReadError → Type 0
-FileRead told (Ok text) = IsFile told text.items
-FileRead told (Err read.NoFile) = IsAbsent told
-FileRead told (Err read.Fault) = Unit {0}
-FileRead told (Err read.Memory) = Unit {0}
+abbrev pub FileRead : {A : Type 0} → ℕ → Told → Result (Vec ℕ A) ReadError → Type 0
+FileRead most told (Ok text) = IsFile most told text.items
+FileRead most told (Err read.NoFile) = IsAbsent told
+FileRead most told (Err read.Fault) = Unit {0}
+FileRead most told (Err read.Memory) = Unit {0}
 
--- the count that rose where a file was not read
+-- the count that rose where a file was not read; faults never fall
 abbrev pub FileCause : {A : Type 0} → (faults faults' misses misses' : ℕ) → Result (Vec ℕ A) ReadError → Type 0
-FileCause faults faults' misses misses' (Ok text) = Unit {0}
+FileCause faults faults' misses misses' (Ok text) = faults ≤ faults'
 FileCause faults faults' misses misses' (Err read.NoFile) = Rose misses misses'
 FileCause faults faults' misses misses' (Err read.Fault) = Rose faults faults'
 FileCause faults faults' misses misses' (Err read.Memory) = Unit {0}
@@ -55,3 +60,19 @@ PieceCause faults faults' misses misses' (Ok n) = (faults ≤ faults') × (misse
 PieceCause faults faults' misses misses' (Err read.NoFile) = (faults ≤ faults') × Rose misses misses'
 PieceCause faults faults' misses misses' (Err read.Fault) = Rose faults faults' × (misses ≤ misses')
 PieceCause faults faults' misses misses' (Err read.Memory) = (faults ≤ faults') × (misses ≤ misses')
+
+-- how a call ends that could not read its file
+abbrev pub unread : ReadError → Ending
+unread read.NoFile = NoFile
+unread read.Fault = FileFault
+unread read.Memory = NoMemory
+
+-- how a run of an image comes back, if there was memory for it
+abbrev pub RunsImage : Image → ℕ → Streams → Streams → Option Image → Ending → Type 0
+RunsImage image n before after None ending = (ending ≡ NoMemory) × (after ≡ before)
+RunsImage image n before after (Some same) ending = (same ≡ image) × RunsTo ending n image before after
+
+-- how an image was written, if there was memory for its bytes
+abbrev pub WritesImage : Image → (old new : Told) (faults faults' : ℕ) → Option Image → Ending → Type 0
+WritesImage image old new faults faults' None ending = ending ≡ NoMemory
+WritesImage image old new faults faults' (Some same) ending = (same ≡ image) × WritesTo old new faults faults' image ending

@@ -1,103 +1,164 @@
 -- What a call of the tool does, by its words, the files, the input, the output and the notes.
-use Rattle.std.specs.Prelude.{◌≡◌, ℕ, ◌+◌, ◌*◌, ◌%◌, ◌<◌, ◌≤◌, Bool, false, List, length, Option, Some, None}
+use Rattle.std.specs.Prelude.{◌≡◌, ◌≢◌, ℕ, ◌<◌, Bool, List, Option, Some, None, Err}
 use Rattle.bb_outside.specs.Causes.{Rose}
-use Rattle.bb_outside.specs.Files.{Told, Stays}
+use Rattle.bb_outside.specs.Files.{Told, Made, Stays}
 use Rattle.rv_image.specs.declared.image.Image.{Image}
+use Rattle.rv_image.specs.declared.error.ImageError.{ImageError}
+use Rattle.rv_image.specs.declared.error.ImageError.TheVariants.{Memory}
+use Rattle.rv_image.specs.Reading.{image_of}
 use Rattle.rv_image.specs.Rules.{IsImage}
+use Rattle.rv_image.specs.Spelling.{spelling}
 use Rattle.rv_machine.specs.declared.stop.Halt.{Halt}
 use Rattle.rv_machine.specs.declared.stop.Halt.TheVariants as halt
-use Rattle.rv_machine.specs.declared.stop.Stop.{Stop}
 use Rattle.rv_machine.specs.State.{State}
-use Rattle.rv_machine.specs.Machine.{steps, machine_after, IsBeforeCall}
+use Rattle.rv_machine.specs.Machine.{steps, IsBeforeCall}
 use Rattle.rv_machine.specs.Start.{start}
-use Rattle.rv_machine.specs.Runs.{Ran, Shown, Stops}
+use Rattle.rv_machine.specs.Runs.{Ran, Shown}
 use Rattle.baggy_tool.specs.declared.ending.Ended.{Ended}
 use Rattle.baggy_tool.specs.declared.ending.Ending.{Ending}
-use Rattle.baggy_tool.specs.declared.ending.Ending.TheVariants.{Exited, OutOfSteps, Refused, Usage, NoFile, FileFault, NoteFault, NoMemory}
-use Rattle.baggy_tool.specs.declared.ending.Refusal.TheVariants.{Source, NotBuilt}
-use Rattle.baggy_tool.specs.declared.ending.CompileError.TheVariants.{Lex}
-use Rattle.baggy_tool.specs.declared.ending.LexError.TheVariants.{TooLong}
-use Rattle.baggy_tool.specs.Endings.{status_of, ending_of, line_of}
-use Rattle.baggy_tool.specs.Files.{IsFile, IsAbsent}
-use Rattle.baggy_tool.specs.Form.{Sum, IsForm, HasNoForm, value_of, summands_of}
+use Rattle.baggy_tool.specs.declared.ending.Ending.TheVariants.{Exited, Reported, Trapped, OutOfSteps, Wrote, Refused, Usage, NoFile, FileFault, ReadFault, WriteFault, NoteFault, NoMemory}
+use Rattle.baggy_tool.specs.declared.ending.Refusal.TheVariants as refusal
+use Rattle.baggy_tool.specs.Accepted.{Refuses, IsImageOf}
+use Rattle.baggy_tool.specs.Endings.{status_of, line_of}
+use Rattle.baggy_tool.specs.Files.{most_source, most_image, IsFile, IsAbsent}
 use Rattle.baggy_tool.specs.Notes.{IsAppended, IsCutOff}
-use Rattle.baggy_tool.specs.Words.{Request, request_of}
+use Rattle.baggy_tool.specs.Words.{Request, Run, Exec, Compile, request_of}
 
--- what the shelf, the input and the output show at one moment
-pub record Seen : Type 0 where
+-- ---- What the outside shows at one moment
+
+-- the input and the output: what a machine meets of them, and their counts of failures
+pub record Streams : Type 0 where
+  pub shown : Shown
+  pub input_faults : ℕ
+  pub output_faults : ℕ
+
+abbrev pub streams : (left : Option (List ℕ)) (is_over : Bool) (input_faults : ℕ) (written : Option (List ℕ)) (output_faults : ℕ) → Streams
+streams left is_over input_faults written output_faults = record { shown = record { left = left; is_over = is_over; written = written }; input_faults = input_faults; output_faults = output_faults }
+
+-- the shelf
+pub record Files : Type 0 where
   pub file : List ℕ → Told
-  pub shelf_faults : ℕ
+  pub faults : ℕ
   pub misses : ℕ
-  pub left : Option (List ℕ)
-  pub is_over : Bool
-  pub written : Option (List ℕ)
 
--- what the notes show at one moment
+abbrev pub files : (file : List ℕ → Told) (faults misses : ℕ) → Files
+files file faults misses = record { file = file; faults = faults; misses = misses }
+
+-- the notes
 pub record Noting : Type 0 where
   pub written : Option (List ℕ)
   pub faults : ℕ
 
--- the part of it that a machine meets
-abbrev pub shown : Seen → Shown
-shown seen = record { left = seen.left; is_over = seen.is_over; written = seen.written }
+abbrev pub noting : (written : Option (List ℕ)) (faults : ℕ) → Noting
+noting written faults = record { written = written; faults = faults }
 
--- how many numbers a sum has
-abbrev pub numbers_of : Sum → ℕ
-numbers_of sum = length (summands_of sum false)
+-- ---- A run
 
--- The image's machine, on every input, exits with the low 8 bits of the sum's value within 8 instructions for each
--- number and 8 more, and makes no environment call but that one.
-pub record ExitsWithSum (sum : Sum) (image : Image) : Type 0 where
-  pub exits : (input : List ℕ) (n : ℕ) → 8 * numbers_of sum + 8 ≤ n → (machine_after image input n).machine.ending ≡ Some (halt.Exited (value_of sum % 256))
-  pub calls : (input : List ℕ) (n number : ℕ) → IsBeforeCall number (machine_after image input n).machine → number ≡ 1
-
--- the text is of the form, and the image is one of its sum
-pub record IsImageOf (text : List ℕ) (image : Image) : Type 0 where
-  pub short : length text ≤ 1048576
-  pub sum : Sum
-  pub form : IsForm text sum
-  pub valid : IsImage image
-  pub right : ExitsWithSum sum image
-
--- the image's machine ran for so many instructions, and then it stood so
-pub record RanTo (image : Image) (n : ℕ) (ending : Option Halt) (before after : Shown) : Type 0 where
+-- after so many instructions the image's machine has ended so, if at all
+pub record Ends (ending : Option Halt) (n : ℕ) (image : Image) (before after : Streams) : Type 0 where
   pub state : State
-  pub ran : Ran (steps n) (start image) before state after
+  pub ran : Ran (steps n) (start image) before.shown state after.shown
   pub ended : state.ending ≡ ending
 
--- How a text is answered. Where there is no image no run was begun: the input is unread, and the output has got nothing.
-abbrev pub AnswersText : List ℕ → ℕ → Shown → Shown → Ending → Option Image → Type 0
-AnswersText text steps before after (Exited status) (Some image) = IsImageOf text image × RanTo image steps (Some (halt.Exited status)) before after
-AnswersText text steps before after OutOfSteps (Some image) = IsImageOf text image × RanTo image steps None before after
-AnswersText text steps before after (Refused (Source (Lex (TooLong n)))) None = (1048576 < length text) × (n ≡ length text) × (after ≡ before)
-AnswersText text steps before after (Refused NotBuilt) None = (length text ≤ 1048576) × HasNoForm text × (after ≡ before)
-AnswersText text steps before after NoMemory None = after ≡ before
-AnswersText text steps before after ending image = ⊥
+-- after fewer instructions it stands before the environment call of this number, which could not be done
+pub record Stands (number n : ℕ) (image : Image) (before after : Streams) : Type 0 where
+  pub count : ℕ
+  pub fewer : count < n
+  pub state : State
+  pub ran : Ran (steps count) (start image) before.shown state after.shown
+  pub call : IsBeforeCall number state
 
--- the file's text was read, and is answered so
-pub record AnswersFile (r : Request) (before after : Seen) (ending : Ending) (image : Option Image) : Type 0 where
+-- how a run of at most n instructions ends
+abbrev pub RunsTo : Ending → ℕ → Image → Streams → Streams → Type 0
+RunsTo (Exited status) n image before after = Ends (Some (halt.Exited status)) n image before after
+RunsTo (Reported kind line) n image before after = Ends (Some (halt.Reported kind line)) n image before after
+RunsTo (Trapped kind) n image before after = Ends (Some (halt.Trapped kind)) n image before after
+RunsTo OutOfSteps n image before after = Ends None n image before after
+RunsTo ReadFault n image before after = Stands 2 n image before after × Rose before.input_faults after.input_faults
+RunsTo WriteFault n image before after = Stands 3 n image before after × Rose before.output_faults after.output_faults
+RunsTo ending n image before after = ⊥
+
+-- ---- The modes, by the bytes that were read of FILE
+
+-- A source is compiled and run. Where there is no image no run was begun: the input is unread, and the output has got
+-- nothing.
+abbrev pub AnswersRun : (text : List ℕ) (n : ℕ) (before after : Streams) → Option Image → Ending → Type 0
+AnswersRun text n before after (Some image) ending = IsImageOf text image × RunsTo ending n image before after
+AnswersRun text n before after None (Refused error) = Refuses text error × (after ≡ before)
+AnswersRun text n before after None NoMemory = after ≡ before
+AnswersRun text n before after None ending = ⊥
+
+-- the bytes are those of an image
+abbrev pub IsSpelled : List ℕ → Image → Type 0
+IsSpelled bytes image = IsImage image × (bytes ≡ spelling image)
+
+-- they are of none, by this rule of the format
+abbrev pub IsRefusedBy : List ℕ → ImageError → Type 0
+IsRefusedBy bytes error = (image_of bytes ≡ Err error) × (error ≢ Memory)
+
+-- an image is run
+abbrev pub AnswersExec : (bytes : List ℕ) (n : ℕ) (before after : Streams) → Option Image → Ending → Type 0
+AnswersExec bytes n before after (Some image) ending = IsSpelled bytes image × RunsTo ending n image before after
+AnswersExec bytes n before after None (Refused (refusal.Image error)) = IsRefusedBy bytes error × (after ≡ before)
+AnswersExec bytes n before after None NoMemory = after ≡ before
+AnswersExec bytes n before after None ending = ⊥
+
+-- what became of the file that an image is written to; at a fault the shelf may have ceased to tell it
+abbrev pub WritesTo : (old new : Told) (faults faults' : ℕ) → Image → Ending → Type 0
+WritesTo old new faults faults' image Wrote = Made old new (spelling image)
+WritesTo old new faults faults' image FileFault = Rose faults faults'
+WritesTo old new faults faults' image NoMemory = Stays old new
+WritesTo old new faults faults' image ending = ⊥
+
+-- A source is compiled, and the bytes of its image become a file.
+abbrev pub AnswersCompile : (text : List ℕ) (old new : Told) (faults faults' : ℕ) → Option Image → Ending → Type 0
+AnswersCompile text old new faults faults' (Some image) ending = IsImageOf text image × WritesTo old new faults faults' image ending
+AnswersCompile text old new faults faults' None (Refused error) = Refuses text error
+AnswersCompile text old new faults faults' None NoMemory = Unit {0}
+AnswersCompile text old new faults faults' None ending = ⊥
+
+-- ---- FILE
+
+-- it was read, and is answered so by its bytes
+pub record AnswersFile (most : ℕ) (told : Told) (P : List ℕ → Type 0) : Type 0 where
   pub text : List ℕ
-  pub read : IsFile (before.file r.file) text
-  pub answers : AnswersText text r.steps (shown before) (shown after) ending image
+  pub read : IsFile most told text
+  pub answers : P text
+
+abbrev pub AnswersRead : Request → (before after : Files) → (old new : Streams) → Option Image → Ending → Type 0
+AnswersRead (Run file n) before after old new image ending =
+    AnswersFile most_source (before.file file) (λ text. AnswersRun text n old new image ending)
+AnswersRead (Exec file n) before after old new image ending =
+    AnswersFile most_image (before.file file) (λ bytes. AnswersExec bytes n old new image ending)
+AnswersRead (Compile file path) before after old new image ending =
+    AnswersFile most_source (before.file file) (λ text. AnswersCompile text (before.file path) (after.file path) before.faults after.faults image ending × (new ≡ old))
+
+abbrev pub file_of : Request → List ℕ
+file_of (Run file n) = file
+file_of (Exec file n) = file
+file_of (Compile file path) = file
 
 -- How a request is answered, but for the notes. The cases exclude each other, so each ending comes exactly where its case
 -- holds, up to faults of the outside and want of memory.
-abbrev pub Answers : Request → Seen → Seen → Ending → Option Image → Type 0
-Answers r before after NoFile None = IsAbsent (before.file r.file) × Rose before.misses after.misses × (shown after ≡ shown before)
-Answers r before after FileFault None = Rose before.shelf_faults after.shelf_faults × (shown after ≡ shown before)
-Answers r before after NoMemory None = shown after ≡ shown before
-Answers r before after ending image = AnswersFile r before after ending image
+abbrev pub Answers : Request → (before after : Files) → (old new : Streams) → Option Image → Ending → Type 0
+Answers r before after old new None NoFile = IsAbsent (before.file (file_of r)) × Rose before.misses after.misses × (new ≡ old)
+Answers r before after old new None FileFault = Rose before.faults after.faults × (new ≡ old)
+Answers r before after old new None NoMemory = new ≡ old
+Answers r before after old new image ending = AnswersRead r before after old new image ending
 
 -- words that ask for nothing are answered by the usage
-abbrev pub AnswersWords : Option Request → Seen → Seen → Ending → Option Image → Type 0
-AnswersWords None before after ending image = (ending ≡ Usage) × (image ≡ None) × (shown after ≡ shown before)
-AnswersWords (Some r) before after ending image = Answers r before after ending image
+abbrev pub AnswersWords : Option Request → (before after : Files) → (old new : Streams) → Option Image → Ending → Type 0
+AnswersWords (Some r) before after old new image ending = Answers r before after old new image ending
+AnswersWords None before after old new None Usage = new ≡ old
+AnswersWords None before after old new None NoMemory = new ≡ old
+AnswersWords None before after old new image ending = ⊥
 
--- how a run of an image comes back, if there was memory for it
-abbrev pub RunsImage : Image → ℕ → Shown → Shown → Ending → Option Image → Type 0
-RunsImage image n before after ending None = (ending ≡ NoMemory) × (after ≡ before)
-RunsImage image n before after ending (Some same) =
-    (same ≡ image) × (stop : Stop) × (state : State) × Stops stop n (start image) before state after × (ending ≡ ending_of stop)
+-- ---- Files and notes
+
+-- only the file that an image was written to may change
+abbrev pub IsKept : Option Request → Option Image → List ℕ → Type 0
+IsKept (Some (Compile file path)) (Some image) name = name ≢ path
+IsKept request image name = Unit {0}
 
 -- the line of the ending was noted, or the notes failed, and that is the answer
 abbrev pub Notes : Ending → Noting → Noting → Ending → Type 0
@@ -105,10 +166,10 @@ Notes ending before after NoteFault = Rose before.faults after.faults × IsCutOf
 Notes ending before after ended = (ended ≡ ending) × IsAppended (line_of ending) before.written after.written
 
 -- what a call says, clause by clause
-pub record Meets (words : List (List ℕ)) (before after : Seen) (notes notes' : Noting) (ended : Ended) : Type 0 where
+pub record Meets (words : List (List ℕ)) (before after : Files) (old new : Streams) (notes notes' : Noting) (ended : Ended) : Type 0 where
   -- the ending but for a fault of the notes
   pub ending : Ending
-  pub answers : AnswersWords (request_of words) before after ending ended.image
+  pub answers : AnswersWords (request_of words) before after old new ended.image ending
   pub noted : Notes ending notes notes' ended.ending
   pub status : ended.status ≡ status_of ended.ending
-  pub files : (name : List ℕ) → Stays (before.file name) (after.file name)
+  pub files : (name : List ℕ) → IsKept (request_of words) ended.image name → Stays (before.file name) (after.file name)

@@ -4,12 +4,14 @@ use Rattle.bb_words.specs.declared.kinds.ReportKind.{ReportKind}
 use Rattle.bb_words.specs.declared.kinds.ReportKind.TheVariants as report
 use Rattle.bb_words.specs.declared.kinds.TrapKind.{TrapKind}
 use Rattle.bb_words.specs.declared.kinds.TrapKind.TheVariants as trap
+use Rattle.rv_image.specs.declared.error.ImageError.{ImageError}
+use Rattle.rv_image.specs.declared.error.ImageError.TheVariants as image
 use Rattle.rv_machine.specs.declared.stop.Stop.{Stop}
 use Rattle.rv_machine.specs.declared.stop.Stop.TheVariants as stop
 use Rattle.baggy_tool.specs.declared.ending.Ending.{Ending}
 use Rattle.baggy_tool.specs.declared.ending.Ending.TheVariants.{Exited, Reported, Trapped, OutOfSteps, Wrote, Checked, Refused, Usage, NoFile, FileFault, ReadFault, WriteFault, NoteFault, NoMemory}
 use Rattle.baggy_tool.specs.declared.ending.Refusal.{Refusal}
-use Rattle.baggy_tool.specs.declared.ending.Refusal.TheVariants.{Source, NotBuilt}
+use Rattle.baggy_tool.specs.declared.ending.Refusal.TheVariants.{Source, Image, NotBuilt}
 use Rattle.baggy_tool.specs.declared.ending.CompileError.{CompileError}
 use Rattle.baggy_tool.specs.declared.ending.CompileError.TheVariants.{Lex, Memory}
 use Rattle.baggy_tool.specs.declared.ending.LexError.{LexError}
@@ -71,8 +73,17 @@ abbrev pub compile_line : CompileError → List ℕ
 compile_line (Lex error) = lex_line error
 compile_line Memory = []
 
+abbrev pub image_line : ImageError → List ℕ
+image_line (image.Short need have) = (codes "baggy: refused Short need " ++ decimal need) ++ numbered (codes " have ") have
+image_line image.BadMagic = codes "baggy: refused BadMagic\n"
+image_line (image.BadVersion version) = numbered (codes "baggy: refused BadVersion ") version
+image_line (image.BadField at) = numbered (codes "baggy: refused BadField at ") at
+image_line (image.Extra at) = numbered (codes "baggy: refused Extra at ") at
+image_line image.Memory = []
+
 abbrev pub refusal_line : Refusal → List ℕ
 refusal_line (Source error) = compile_line error
+refusal_line (Image error) = image_line error
 refusal_line NotBuilt = codes "baggy: refused NotBuilt\n"
 
 -- the line that is noted of an ending, with its line feed; some endings have none

@@ -1,16 +1,16 @@
 //! From a text to its image.
-ghost use Rattle.std.specs.Prelude.{◌≡◌, ◌≤◌, length};
-ghost use Rattle.baggy_tool.specs.Building.{Builds};
+ghost use Rattle.std.specs.Prelude.{◌≡◌, ◌+◌, ◌≤◌, length};
+ghost use Rattle.baggy_tool.specs.Building.{Builds, BuildsSum};
+ghost use Rattle.baggy_tool.specs.Files.{most_source};
 ghost use Rattle.baggy_tool.specs.declared.build.BuildError.TheVariants.{Memory};
 
 use crate::code::compile;
 use crate::ending::{CompileError, LexError, Refusal};
 use crate::form::read_form;
+use crate::reader::MAX_SOURCE;
 use rv_image::image::Image;
+use rv_machine::laws;
 use std::alloc::{AllocError, Global};
-
-/// How many bytes a source may have.
-const MAX_LENGTH: usize = 1_048_576;
 
 /// Why there is no image.
 #[derive(Debug, Drop)]
@@ -29,10 +29,26 @@ impl From<AllocError> for BuildError {
 
 /// The image of the text, or why it has none.
 pub(crate) fn build(alloc: Global, text: &[u8]) -> Result<Image, BuildError>
-    requires { length text.now ≤ 1048577 }
+    requires { length text.now ≤ most_source + 1 }
     ensures { Builds text.now result }
 {
-    if text.len() > MAX_LENGTH {
+    // What the machine does at the image's words, and what it then has told.
+    laws::instruction_done();
+    laws::words_stand();
+    laws::steps_add();
+    laws::ending_stays();
+    laws::told_grows();
+    laws::table_is_kept();
+    laws::safe_at_end();
+    build_sum(alloc, text)
+}
+
+// The image of the text's sum.
+fn build_sum(alloc: Global, text: &[u8]) -> Result<Image, BuildError>
+    requires { length text.now ≤ most_source + 1 }
+    ensures { BuildsSum text.now result }
+{
+    if text.len() > MAX_SOURCE {
         let length = text.len() as u32;
         let error = CompileError::Lex(LexError::TooLong { length });
         return Err(BuildError::Refused(Refusal::Source(error)));

@@ -3,6 +3,7 @@ ghost use Rattle.std.specs.Prelude.{◌≡◌};
 ghost use Rattle.baggy_tool.specs.Endings.{status_of, ending_of};
 
 use bb_words::kinds::{ReportKind, TrapKind};
+use rv_image::error::ImageError;
 use rv_image::image::Image;
 use rv_machine::stop::Stop;
 
@@ -24,7 +25,10 @@ pub enum CompileError {
 /// Why a file was refused.
 #[derive(Debug, Drop)]
 pub enum Refusal {
+    /// The source has no image.
     Source(CompileError),
+    /// The bytes are no image. No refusal holds `ImageError::Memory`.
+    Image(ImageError),
     /// The file is no program of the form that is built so far.
     NotBuilt,
 }
@@ -69,7 +73,7 @@ pub struct Ended {
     pub status: u8,
     /// How the call ended.
     pub ending: Ending,
-    /// The image that this call compiled, where it came to its run.
+    /// The image that this call compiled or read, where it came to its run or to the write of its file.
     pub image: Option<Image>,
 }
 

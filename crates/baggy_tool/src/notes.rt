@@ -1,13 +1,14 @@
 //! The line that is noted of an ending.
 ghost use Rattle.std.specs.Prelude.{◌≡◌, ◌++◌};
 ghost use Rattle.bb_outside.specs.Causes.{HasCause};
-ghost use Rattle.baggy_tool.specs.Endings.{line_of, refusal_line, compile_line, lex_line, numbered, report_name, trap_name};
+ghost use Rattle.baggy_tool.specs.Endings.{line_of, refusal_line, compile_line, image_line, lex_line, numbered, report_name, trap_name};
 ghost use Rattle.baggy_tool.specs.Notes.{Noted};
 
 use crate::ending::{CompileError, Ending, LexError, Refusal};
 use bb_outside::{Sink, SinkFailed};
 use bb_words::kinds::{ReportKind, TrapKind};
 use itoa::Buffer;
+use rv_image::error::ImageError;
 
 const USAGE: &[u8] =
     b"usage: baggy run|compile|exec|check FILE [--steps N] [--out PATH] [--profile]\n";
@@ -54,6 +55,7 @@ fn note_refusal<E: Sink>(notes: &mut E, error: &Refusal) -> Result<(), SinkFaile
 {
     match error {
         Refusal::Source(error) => note_compile_error(notes, error),
+        Refusal::Image(error) => note_image_error(notes, *error),
         Refusal::NotBuilt => put(notes, b"baggy: refused NotBuilt\n"),
     }
 }
@@ -80,6 +82,35 @@ fn too_long(error: &LexError) -> u32
 {
     let LexError::TooLong { length } = error;
     *length
+}
+
+fn note_image_error<E: Sink>(notes: &mut E, error: ImageError) -> Result<(), SinkFailed>
+    ensures noted { Noted result (image_line error) (E.written notes.old) (E.written notes.new) }
+    ensures cause { HasCause (E.faults notes.old) (E.faults notes.new) result }
+{
+    match error {
+        ImageError::Short { need, have } => note_short(notes, need, have),
+        ImageError::BadMagic => put(notes, b"baggy: refused BadMagic\n"),
+        ImageError::BadVersion { version } => {
+            put_numbered(notes, b"baggy: refused BadVersion ", version)
+        }
+        ImageError::BadField { at } => put_numbered(notes, b"baggy: refused BadField at ", at),
+        ImageError::Extra { at } => put_numbered(notes, b"baggy: refused Extra at ", at),
+        ImageError::Memory => Ok(()),
+    }
+}
+
+fn note_short<E: Sink>(notes: &mut E, need: u32, have: u32) -> Result<(), SinkFailed>
+    ensures noted { Noted result (image_line (ImageError.Short need have)) (E.written notes.old) (E.written notes.new) }
+    ensures cause { HasCause (E.faults notes.old) (E.faults notes.new) result }
+{
+    let mut buffer = Buffer::new();
+    put_both(
+        notes,
+        b"baggy: refused Short need ",
+        buffer.format(need).as_bytes(),
+    )?;
+    put_numbered(notes, b" have ", have)
 }
 
 fn report_name(kind: ReportKind) -> &'static [u8]

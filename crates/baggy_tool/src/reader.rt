@@ -1,5 +1,5 @@
 //! Reading the file.
-ghost use Rattle.std.specs.Prelude.{◌≡◌, ◌+◌, ◌≤◌, ◌<◌, ℕ, List, length, vec_len, IfOk};
+ghost use Rattle.std.specs.Prelude.{◌≡◌, ◌+◌, ◌^◌, ◌≤◌, ◌<◌, ℕ, List, length, vec_len, IfOk};
 ghost use Rattle.bb_outside.specs.Files.{Stays};
 ghost use Rattle.baggy_tool.specs.Building.{FileRead, FileCause, PieceRead, PieceCause};
 
@@ -14,20 +14,25 @@ pub(crate) enum ReadError {
     Memory,
 }
 
-// How many bytes of a source are read at most: one more than it may have.
-const MAX_READ: usize = 1_048_577;
+/// How many bytes a source may have.
+pub(crate) const MAX_SOURCE: usize = 1_048_576;
+
+/// How many bytes an image may have.
+pub(crate) const MAX_IMAGE: usize = 4_333_500;
 
 // How many bytes are asked for at a time.
 const PIECE: usize = 4096;
 
-/// The bytes of the file, up to one more than a source may have.
+/// The bytes of the file, up to one more than `most`.
 pub(crate) fn read_file<F: Shelf>(
     alloc: Global,
     shelf: &mut F,
     name: &str,
+    most: usize,
 ) -> Result<Vec<u8>, ReadError>
-    ensures text { FileRead (F.file shelf.old name.now) result }
-    ensures length { IfOk result (λ text. vec_len text ≤ 1048577) }
+    requires { most < 2 ^ 32 }
+    ensures text { FileRead most (F.file shelf.old name.now) result }
+    ensures length { IfOk result (λ text. vec_len text ≤ most + 1) }
     ensures files { (other : List ℕ) → Stays (F.file shelf.old other) (F.file shelf.new other) }
     ensures cause { FileCause (F.faults shelf.old) (F.faults shelf.new) (F.misses shelf.old) (F.misses shelf.new) result }
 {
@@ -35,8 +40,8 @@ pub(crate) fn read_file<F: Shelf>(
     let Ok(mut buffer) = vec![in alloc; 0u8; piece_size()] else {
         return Err(ReadError::Memory);
     };
-    while text.len() < MAX_READ {
-        match read_piece(shelf, name, &mut text, &mut buffer) {
+    while text.len() < most + 1 {
+        match read_piece(shelf, name, most, &mut text, &mut buffer) {
             Ok(0) => return Ok(text),
             Ok(_) => {}
             Err(e) => return Err(e),
@@ -55,19 +60,20 @@ fn piece_size() -> usize
 fn read_piece<F: Shelf>(
     shelf: &mut F,
     name: &str,
+    most: usize,
     text: &mut Vec<u8>,
     buffer: &mut [u8],
 ) -> Result<usize, ReadError>
     requires some { 0 < length buffer.old }
-    requires wanted { vec_len text.old < 1048577 }
+    requires wanted { (vec_len text.old < most + 1) × (most < 2 ^ 32) }
     ensures text { PieceRead (F.file shelf.old name.now) text.old.items text.new.items result }
     ensures count { IfOk result (λ n. vec_len text.new ≡ vec_len text.old + n) }
-    ensures most { vec_len text.new ≤ 1048577 }
+    ensures most { vec_len text.new ≤ most + 1 }
     ensures same { (other : List ℕ) → Stays (F.file shelf.old other) (F.file shelf.new other) }
     ensures cause { PieceCause (F.faults shelf.old) (F.faults shelf.new) (F.misses shelf.old) (F.misses shelf.new) result }
 {
     let at = text.len();
-    let want = buffer.len().min(MAX_READ - at);
+    let want = buffer.len().min(most + 1 - at);
     let into = &mut buffer[..want];
     match shelf.read(name, at as u64, into) {
         Ok(None) => Err(ReadError::NoFile),

@@ -1,20 +1,22 @@
 //! The call that does what the words say.
-ghost use Rattle.std.specs.Prelude.{◌≡◌, ◌≢◌, ◌≤◌, ℕ, List, None, length, map};
+ghost use Rattle.std.specs.Prelude.{◌≡◌, ◌≢◌, ◌+◌, ◌≤◌, ℕ, List, None, Some, length, map};
 ghost use Rattle.std.specs.String.{string_bytes};
 ghost use Rattle.bb_outside.specs.Files.{Stays};
 ghost use Rattle.rv_image.specs.Rules.{IsImage};
 ghost use Rattle.baggy_tool.specs.Endings.{status_of};
-ghost use Rattle.baggy_tool.specs.Words.{request, request_of};
-ghost use Rattle.baggy_tool.specs.Calls.{Meets, AnswersWords, Answers, AnswersText, RunsImage, Notes};
+ghost use Rattle.baggy_tool.specs.Words.{Run, Exec, Compile, request, request_of};
+ghost use Rattle.baggy_tool.specs.Building.{unread, RunsImage, WritesImage};
+ghost use Rattle.baggy_tool.specs.Files.{most_source, most_image};
+ghost use Rattle.baggy_tool.specs.Calls.{Meets, AnswersWords, Answers, AnswersRun, AnswersExec, AnswersCompile, IsKept, Notes, Streams, files, streams, noting};
 
 use crate::build::{BuildError, build};
-use crate::ending::{Ended, Ending, ending_of, status_of};
+use crate::ending::{Ended, Ending, Refusal, ending_of, status_of};
 use crate::notes::note;
-use crate::reader::{ReadError, read_file};
+use crate::reader::{MAX_IMAGE, MAX_SOURCE, ReadError, read_file};
 use crate::words::{Command, command_in};
-use bb_outside::{Shelf, Sink, Source};
+use bb_outside::{Shelf, ShelfFailed, Sink, Source};
 use rv_image::image::Image;
-use rv_machine::laws;
+use rv_image::{ImageError, read, write};
 use rv_machine::machine::Machine;
 use std::alloc::Global;
 
@@ -25,7 +27,8 @@ struct Outcome {
     image: Option<Image>,
 }
 
-/// Does what the words say: reads the file, makes its image, runs that, and notes how the call ended.
+/// Does what the words say: reads the file, compiles it or takes it as an image, runs or writes the image, and notes
+/// how the call ended.
 ///
 /// The words are those after the program's name. A failing note replaces the ending by `NoteFault`.
 pub fn baggy_run<F: Shelf, I: Source, O: Sink, E: Sink>(
@@ -37,24 +40,12 @@ pub fn baggy_run<F: Shelf, I: Source, O: Sink, E: Sink>(
     notes: &mut E,
 ) -> Ended
     ensures { Meets (map string_bytes words.now)
-        (record {
-          file = F.file shelf.old;
-          shelf_faults = F.faults shelf.old;
-          misses = F.misses shelf.old;
-          left = I.left input.old;
-          is_over = I.is_over input.old;
-          written = O.written output.old;
-        })
-        (record {
-          file = F.file shelf.new;
-          shelf_faults = F.faults shelf.new;
-          misses = F.misses shelf.new;
-          left = I.left input.new;
-          is_over = I.is_over input.new;
-          written = O.written output.new;
-        })
-        (record { written = E.written notes.old; faults = E.faults notes.old })
-        (record { written = E.written notes.new; faults = E.faults notes.new })
+        (files (F.file shelf.old) (F.faults shelf.old) (F.misses shelf.old))
+        (files (F.file shelf.new) (F.faults shelf.new) (F.misses shelf.new))
+        (streams (I.left input.old) (I.is_over input.old) (I.faults input.old) (O.written output.old) (O.faults output.old))
+        (streams (I.left input.new) (I.is_over input.new) (I.faults input.new) (O.written output.new) (O.faults output.new))
+        (noting (E.written notes.old) (E.faults notes.old))
+        (noting (E.written notes.new) (E.faults notes.new))
         result }
 {
     let outcome = answer(alloc, words, shelf, input, output);
@@ -70,19 +61,22 @@ fn answer<F: Shelf, I: Source, O: Sink>(
     output: &mut O,
 ) -> Outcome
     ensures answers { AnswersWords (request_of (map string_bytes words.now))
-        (record { file = F.file shelf.old; shelf_faults = F.faults shelf.old; misses = F.misses shelf.old; left = I.left input.old; is_over = I.is_over input.old; written = O.written output.old })
-        (record { file = F.file shelf.new; shelf_faults = F.faults shelf.new; misses = F.misses shelf.new; left = I.left input.new; is_over = I.is_over input.new; written = O.written output.new })
-        result.ending result.image }
-    ensures files { (other : List ℕ) → Stays (F.file shelf.old other) (F.file shelf.new other) }
+        (files (F.file shelf.old) (F.faults shelf.old) (F.misses shelf.old))
+        (files (F.file shelf.new) (F.faults shelf.new) (F.misses shelf.new))
+        (streams (I.left input.old) (I.is_over input.old) (I.faults input.old) (O.written output.old) (O.faults output.old))
+        (streams (I.left input.new) (I.is_over input.new) (I.faults input.new) (O.written output.new) (O.faults output.new))
+        result.image result.ending }
+    ensures files { (other : List ℕ) → IsKept (request_of (map string_bytes words.now)) result.image other → Stays (F.file shelf.old other) (F.file shelf.new other) }
 {
-    match command_in(words) {
-        None => without_image(Ending::Usage),
-        Some(command) => answer_file(alloc, command, shelf, input, output),
+    match command_in(alloc, words) {
+        Err(_) => without_image(Ending::NoMemory),
+        Ok(None) => without_image(Ending::Usage),
+        Ok(Some(command)) => answer_command(alloc, command, shelf, input, output),
     }
 }
 
-// Reads the file, makes its image and runs it.
-fn answer_file<F: Shelf, I: Source, O: Sink>(
+// Does what is asked for.
+fn answer_command<F: Shelf, I: Source, O: Sink>(
     alloc: Global,
     command: Command<'_>,
     shelf: &mut F,
@@ -90,43 +84,135 @@ fn answer_file<F: Shelf, I: Source, O: Sink>(
     output: &mut O,
 ) -> Outcome
     ensures answers { Answers (request command.entry)
-        (record { file = F.file shelf.old; shelf_faults = F.faults shelf.old; misses = F.misses shelf.old; left = I.left input.old; is_over = I.is_over input.old; written = O.written output.old })
-        (record { file = F.file shelf.new; shelf_faults = F.faults shelf.new; misses = F.misses shelf.new; left = I.left input.new; is_over = I.is_over input.new; written = O.written output.new })
-        result.ending result.image }
+        (files (F.file shelf.old) (F.faults shelf.old) (F.misses shelf.old))
+        (files (F.file shelf.new) (F.faults shelf.new) (F.misses shelf.new))
+        (streams (I.left input.old) (I.is_over input.old) (I.faults input.old) (O.written output.old) (O.faults output.old))
+        (streams (I.left input.new) (I.is_over input.new) (I.faults input.new) (O.written output.new) (O.faults output.new))
+        result.image result.ending }
+    ensures files { (other : List ℕ) → IsKept (Some (request command.entry)) result.image other → Stays (F.file shelf.old other) (F.file shelf.new other) }
+{
+    match command {
+        Command::Run { file, steps } => answer_run(alloc, file, steps, shelf, input, output),
+        Command::Exec { file, steps } => answer_exec(alloc, file, steps, shelf, input, output),
+        Command::Compile { file, path } => answer_compile(alloc, file, path, shelf),
+    }
+}
+
+// Reads a source, compiles it and runs its image.
+fn answer_run<F: Shelf, I: Source, O: Sink>(
+    alloc: Global,
+    file: &str,
+    steps: u64,
+    shelf: &mut F,
+    input: &mut I,
+    output: &mut O,
+) -> Outcome
+    ensures answers { Answers (Run file.now steps)
+        (files (F.file shelf.old) (F.faults shelf.old) (F.misses shelf.old))
+        (files (F.file shelf.new) (F.faults shelf.new) (F.misses shelf.new))
+        (streams (I.left input.old) (I.is_over input.old) (I.faults input.old) (O.written output.old) (O.faults output.old))
+        (streams (I.left input.new) (I.is_over input.new) (I.faults input.new) (O.written output.new) (O.faults output.new))
+        result.image result.ending }
     ensures files { (other : List ℕ) → Stays (F.file shelf.old other) (F.file shelf.new other) }
 {
-    match read_file(alloc, shelf, command.file) {
-        Err(ReadError::NoFile) => without_image(Ending::NoFile),
-        Err(ReadError::Fault) => without_image(Ending::FileFault),
-        Err(ReadError::Memory) => without_image(Ending::NoMemory),
-        Ok(text) => answer_text(alloc, &text, command.steps, input, output),
+    match read_file(alloc, shelf, file, MAX_SOURCE) {
+        Err(e) => without_image(unread(e)),
+        Ok(text) => run_text(alloc, &text, steps, input, output),
+    }
+}
+
+// Reads an image and runs it.
+fn answer_exec<F: Shelf, I: Source, O: Sink>(
+    alloc: Global,
+    file: &str,
+    steps: u64,
+    shelf: &mut F,
+    input: &mut I,
+    output: &mut O,
+) -> Outcome
+    ensures answers { Answers (Exec file.now steps)
+        (files (F.file shelf.old) (F.faults shelf.old) (F.misses shelf.old))
+        (files (F.file shelf.new) (F.faults shelf.new) (F.misses shelf.new))
+        (streams (I.left input.old) (I.is_over input.old) (I.faults input.old) (O.written output.old) (O.faults output.old))
+        (streams (I.left input.new) (I.is_over input.new) (I.faults input.new) (O.written output.new) (O.faults output.new))
+        result.image result.ending }
+    ensures files { (other : List ℕ) → Stays (F.file shelf.old other) (F.file shelf.new other) }
+{
+    match read_file(alloc, shelf, file, MAX_IMAGE) {
+        Err(e) => without_image(unread(e)),
+        Ok(bytes) => exec_bytes(alloc, &bytes, steps, input, output),
+    }
+}
+
+// Reads a source, compiles it and writes its image.
+fn answer_compile<F: Shelf>(alloc: Global, file: &str, path: &str, shelf: &mut F) -> Outcome
+    ensures answers { (old : Streams) → Answers (Compile file.now path.now)
+        (files (F.file shelf.old) (F.faults shelf.old) (F.misses shelf.old))
+        (files (F.file shelf.new) (F.faults shelf.new) (F.misses shelf.new))
+        old old result.image result.ending }
+    ensures files { (other : List ℕ) → IsKept (Some (Compile file.now path.now)) result.image other → Stays (F.file shelf.old other) (F.file shelf.new other) }
+{
+    match read_file(alloc, shelf, file, MAX_SOURCE) {
+        Err(e) => without_image(unread(e)),
+        Ok(text) => write_text(alloc, &text, path, shelf),
     }
 }
 
 // Makes the text's image and runs it.
-fn answer_text<I: Source, O: Sink>(
+fn run_text<I: Source, O: Sink>(
     alloc: Global,
     text: &[u8],
     steps: u64,
     input: &mut I,
     output: &mut O,
 ) -> Outcome
-    requires { length text.now ≤ 1048577 }
-    ensures { AnswersText text.now steps
-        (record { left = I.left input.old; is_over = I.is_over input.old; written = O.written output.old })
-        (record { left = I.left input.new; is_over = I.is_over input.new; written = O.written output.new })
-        result.ending result.image }
+    requires { length text.now ≤ most_source + 1 }
+    ensures { AnswersRun text.now steps
+        (streams (I.left input.old) (I.is_over input.old) (I.faults input.old) (O.written output.old) (O.faults output.old))
+        (streams (I.left input.new) (I.is_over input.new) (I.faults input.new) (O.written output.new) (O.faults output.new))
+        result.image result.ending }
 {
-    // What the machine does at the image's words.
-    laws::instruction_done();
-    laws::words_stand();
-    laws::steps_add();
-    laws::ending_stays();
-
     match build(alloc, text) {
         Err(BuildError::Refused(error)) => without_image(Ending::Refused { error }),
         Err(BuildError::Memory) => without_image(Ending::NoMemory),
         Ok(image) => run_image(alloc, image, steps, input, output),
+    }
+}
+
+// Takes the bytes as an image and runs it.
+fn exec_bytes<I: Source, O: Sink>(
+    alloc: Global,
+    bytes: &[u8],
+    steps: u64,
+    input: &mut I,
+    output: &mut O,
+) -> Outcome
+    requires { length bytes.now ≤ most_image + 1 }
+    ensures { AnswersExec bytes.now steps
+        (streams (I.left input.old) (I.is_over input.old) (I.faults input.old) (O.written output.old) (O.faults output.old))
+        (streams (I.left input.new) (I.is_over input.new) (I.faults input.new) (O.written output.new) (O.faults output.new))
+        result.image result.ending }
+{
+    match read(alloc, bytes) {
+        Err(ImageError::Memory) => without_image(Ending::NoMemory),
+        Err(error) => without_image(Ending::Refused {
+            error: Refusal::Image(error),
+        }),
+        Ok(image) => run_image(alloc, image, steps, input, output),
+    }
+}
+
+// Makes the text's image and writes it.
+fn write_text<F: Shelf>(alloc: Global, text: &[u8], path: &str, shelf: &mut F) -> Outcome
+    requires { length text.now ≤ most_source + 1 }
+    ensures written { AnswersCompile text.now (F.file shelf.old path.now) (F.file shelf.new path.now) (F.faults shelf.old) (F.faults shelf.new) result.image result.ending }
+    ensures others { (other : List ℕ) → other ≢ path.now → Stays (F.file shelf.old other) (F.file shelf.new other) }
+    ensures unwritten { result.image ≡ None → (other : List ℕ) → Stays (F.file shelf.old other) (F.file shelf.new other) }
+{
+    match build(alloc, text) {
+        Err(BuildError::Refused(error)) => without_image(Ending::Refused { error }),
+        Err(BuildError::Memory) => without_image(Ending::NoMemory),
+        Ok(image) => write_image(alloc, image, path, shelf),
     }
 }
 
@@ -140,19 +226,53 @@ fn run_image<I: Source, O: Sink>(
 ) -> Outcome
     requires { IsImage image }
     ensures { RunsImage image steps
-        (record { left = I.left input.old; is_over = I.is_over input.old; written = O.written output.old })
-        (record { left = I.left input.new; is_over = I.is_over input.new; written = O.written output.new })
-        result.ending result.image }
+        (streams (I.left input.old) (I.is_over input.old) (I.faults input.old) (O.written output.old) (O.faults output.old))
+        (streams (I.left input.new) (I.is_over input.new) (I.faults input.new) (O.written output.new) (O.faults output.new))
+        result.image result.ending }
 {
     match Machine::new(alloc, &image) {
         Err(_) => without_image(Ending::NoMemory),
         Ok(mut machine) => {
             let stop = machine.run(steps, input, output);
-            Outcome {
-                ending: ending_of(stop),
-                image: Some(image),
-            }
+            with_image(ending_of(stop), image)
         }
+    }
+}
+
+// Writes the image.
+fn write_image<F: Shelf>(alloc: Global, image: Image, path: &str, shelf: &mut F) -> Outcome
+    requires { IsImage image }
+    ensures written { WritesImage image (F.file shelf.old path.now) (F.file shelf.new path.now) (F.faults shelf.old) (F.faults shelf.new) result.image result.ending }
+    ensures others { (other : List ℕ) → other ≢ path.now → Stays (F.file shelf.old other) (F.file shelf.new other) }
+    ensures unwritten { result.image ≡ None → (other : List ℕ) → Stays (F.file shelf.old other) (F.file shelf.new other) }
+{
+    match write(alloc, &image) {
+        Err(_) => without_image(Ending::NoMemory),
+        Ok(bytes) => match shelf.write(path, bytes.as_slice()) {
+            Ok(()) => with_image(Ending::Wrote, image),
+            Err(ShelfFailed::Fault) => with_image(Ending::FileFault, image),
+            Err(ShelfFailed::Memory) => with_image(Ending::NoMemory, image),
+        },
+    }
+}
+
+// How a call ends that could not read its file.
+fn unread(error: ReadError) -> Ending
+    ensures { result ≡ unread error }
+{
+    match error {
+        ReadError::NoFile => Ending::NoFile,
+        ReadError::Fault => Ending::FileFault,
+        ReadError::Memory => Ending::NoMemory,
+    }
+}
+
+fn with_image(ending: Ending, image: Image) -> Outcome
+    ensures { result ≡ record { ending = ending; image = Some image } }
+{
+    Outcome {
+        ending,
+        image: Some(image),
     }
 }
 
@@ -171,8 +291,8 @@ fn finish<E: Sink>(outcome: Outcome, notes: &mut E) -> Ended
     ensures image { result.image ≡ outcome.image }
     ensures status { result.status ≡ status_of result.ending }
     ensures noted { Notes outcome.ending
-        (record { written = E.written notes.old; faults = E.faults notes.old })
-        (record { written = E.written notes.new; faults = E.faults notes.new })
+        (noting (E.written notes.old) (E.faults notes.old))
+        (noting (E.written notes.new) (E.faults notes.new))
         result.ending }
 {
     let Outcome { ending, image } = outcome;

@@ -20,10 +20,7 @@ struct Call<'a> {
 
 // The status, and what was noted. Nothing is written to the output.
 fn answer(alloc: Global, call: &Call<'_>) -> Result<(u8, MemSink, MemSink), AllocError> {
-    let mut words = Vec::new(alloc);
-    for word in call.words {
-        words.push(String::from_str(alloc, word)?)?;
-    }
+    let words = words_of(alloc, call.words)?;
     let mut shelf = MemShelf::new(alloc, call.failing_reads)?;
     shelf.add("f.c", call.text)?;
     let mut input = MemSource::new(alloc, b"", call.failing_takes)?;
@@ -40,14 +37,24 @@ fn answer(alloc: Global, call: &Call<'_>) -> Result<(u8, MemSink, MemSink), Allo
     Ok((status, output, notes))
 }
 
+fn words_of(alloc: Global, texts: &[&str]) -> Result<Vec<String>, AllocError> {
+    let mut words = Vec::new(alloc);
+    for text in texts {
+        words.push(String::from_str(alloc, text)?)?;
+    }
+    Ok(words)
+}
+
 const RUN: &[&str] = &["run", "f.c"];
+
+const ANSWER: &str = "int main(void){return 42;}";
 
 const USAGE: &str =
     "usage: baggy run|compile|exec|check FILE [--steps N] [--out PATH] [--profile]\n";
 
 #[test]
 fn answers(rt: HostRuntime) -> Result<(), Fail> {
-    let rows: [(&[&str], &str, u8, &str); 17] = [
+    let rows: [(&[&str], &str, u8, &str); 26] = [
         (RUN, "int main(void){return 42;}", 42, ""),
         (RUN, "int main(void) { return 40 + 2; }", 42, ""),
         (RUN, "int main(void) { return 1 - 300; }", 213, ""),
@@ -95,6 +102,25 @@ fn answers(rt: HostRuntime) -> Result<(), Fail> {
         (&["walk", "f.c"], "", 125, USAGE),
         (&[], "", 125, USAGE),
         (&["run", "g.c"], "", 126, "baggy: no file\n"),
+        (&["--steps", "5", "run", "f.c"], ANSWER, 42, ""),
+        (&["run", "--steps=5", "f.c"], ANSWER, 42, ""),
+        (
+            &["run", "f.c", "--steps", "5", "--steps", "5"],
+            ANSWER,
+            125,
+            USAGE,
+        ),
+        (&["run", "f.c", "--steps"], ANSWER, 125, USAGE),
+        (&["run", "f.c", "--out", "p"], ANSWER, 125, USAGE),
+        (&["run", "f.c", "g.c"], ANSWER, 125, USAGE),
+        (&["compile", "f.c"], ANSWER, 125, USAGE),
+        (
+            &["compile", "f.c", "--out", "p", "--steps", "5"],
+            ANSWER,
+            125,
+            USAGE,
+        ),
+        (&["--help"], ANSWER, 125, USAGE),
     ];
     for (words, text, status, noted) in rows {
         let call = Call {
@@ -142,5 +168,77 @@ fn faults(rt: HostRuntime) -> Result<(), Fail> {
         assert_eq!(rt; notes.bytes(), noted.as_bytes(), "{noted}");
         assert!(rt; output.bytes().is_empty(), "{noted}");
     }
+    Ok(())
+}
+
+// The program of three instructions that exits with 42.
+const WORKED: [u8; 40] = [
+    0x42, 0x41, 0x47, 0x59, 1, 0, 0, 0, 0, 0x10, 0, 0, 0, 0, 0, 0, 0, 0, 0, 0, 0, 0, 0, 0, 12, 0,
+    0, 0, 0x13, 0x05, 0xA0, 0x02, 0x93, 0x08, 0x10, 0x00, 0x73, 0x00, 0x00, 0x00,
+];
+
+// So many bytes of the worked image, zeros behind it, with one byte changed.
+fn changed(alloc: Global, len: usize, place: usize, value: u8) -> Result<Vec<u8>, AllocError> {
+    let mut bytes = Vec::from_slice(alloc, &WORKED)?;
+    bytes.push(0)?;
+    bytes.truncate(len);
+    if place < bytes.len() {
+        bytes[place] = value;
+    }
+    Ok(bytes)
+}
+
+#[test]
+fn images(rt: HostRuntime) -> Result<(), Fail> {
+    // The length, the place of a byte and its value; the status and the note.
+    let rows: [(usize, usize, u8, u8, &str); 9] = [
+        (40, 0, 0x42, 42, ""),
+        (30, 0, 0x42, 124, "baggy: refused Short need 40 have 30\n"),
+        (24, 0, 0x42, 124, "baggy: refused Short need 28 have 24\n"),
+        (0, 0, 0, 124, "baggy: refused Short need 4 have 0\n"),
+        (41, 0, 0x42, 124, "baggy: refused Extra at 40\n"),
+        (40, 3, 0, 124, "baggy: refused BadMagic\n"),
+        (40, 4, 2, 124, "baggy: refused BadVersion 2\n"),
+        (40, 8, 1, 124, "baggy: refused BadField at 8\n"),
+        (40, 36, 0, 122, "baggy: trap Illegal\n"),
+    ];
+    for (len, place, value, status, noted) in rows {
+        let text = changed(rt.alloc(), len, place, value)?;
+        let call = Call {
+            words: &["exec", "f.c"],
+            text: &text,
+            failing_reads: &[],
+            failing_takes: &[],
+            failing_puts: &[],
+            room: 200,
+        };
+        let (got, _, notes) = answer(rt.alloc(), &call)?;
+        assert_eq!(rt; got, status, "{noted}");
+        assert_eq!(rt; notes.bytes(), noted.as_bytes(), "{noted}");
+    }
+    Ok(())
+}
+
+// The status of a call on a shelf.
+fn status_on(alloc: Global, shelf: &mut MemShelf, words: &[&str]) -> Result<u8, AllocError> {
+    let words = words_of(alloc, words)?;
+    let mut input = MemSource::new(alloc, b"", &[])?;
+    let mut output = MemSink::new(alloc, 100, &[])?;
+    let mut notes = MemSink::new(alloc, 200, &[])?;
+    let Ended { status, .. } = baggy_run(alloc, &words, shelf, &mut input, &mut output, &mut notes);
+    Ok(status)
+}
+
+#[test]
+fn compiles_and_runs(rt: HostRuntime) -> Result<(), Fail> {
+    let alloc = rt.alloc();
+    let compile = ["compile", "f.c", "--out", "p.img"];
+    let mut shelf = MemShelf::new(alloc, &[2])?;
+    shelf.add("f.c", b"int main(void) { return 1 - 300; }")?;
+    assert_eq!(rt; status_on(alloc, &mut shelf, &compile)?, 126);
+    assert_eq!(rt; status_on(alloc, &mut shelf, &["exec", "p.img"])?, 126);
+    assert_eq!(rt; status_on(alloc, &mut shelf, &compile)?, 0);
+    assert_eq!(rt; status_on(alloc, &mut shelf, &["exec", "p.img"])?, 213);
+    assert_eq!(rt; status_on(alloc, &mut shelf, &["run", "f.c"])?, 213);
     Ok(())
 }

@@ -1,7 +1,16 @@
-use Rattle.baggy_tool.proofs.FormLemmas.{found_small}
+use Rattle.baggy_tool.proofs.Machine.{MachineLaws}
+use Rattle.baggy_tool.proofs.Answering.{builds_right}
 use Rattle.baggy_tool.proofs.build.build.Goals as goal
 
-pub compile-requires : goal.compile-requires
-compile-requires c =
-    let found = rw c.in-Some.is at c.in_ok-read_form.ensures.found in
-    rw c.deref.ensures.value (found_small c.args.text.now c.in-Some.summands.items found)
+pub returns : goal.returns
+returns c =
+    let laws : MachineLaws = record {
+      done = c.instruction_done.ensures;
+      stand = c.words_stand.ensures;
+      add = c.steps_add.ensures;
+      stay = c.ending_stays.ensures;
+      grow = c.told_grows.ensures;
+      table = c.table_is_kept.ensures;
+      safe = c.safe_at_end.ensures;
+    } in
+    builds_right laws c.args.text.now c.build_sum.result c.build_sum.ensures
