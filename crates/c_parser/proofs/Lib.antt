@@ -12,3 +12,4 @@ pub mod CompleteExpressions
 pub mod CompleteDeclarations
 pub mod CompleteStatements
 pub mod Laws
+pub mod CodeSteps
