@@ -7,7 +7,7 @@ use Rattle.rv_code.specs.Code.{Fits, word_of}
 use Rattle.rv_code.specs.declared.instr.Instr.{Instr}
 use Rattle.rv_code.specs.declared.instr.Instr.TheVariants.{Lui, Addi, Add, Sub, Ecall}
 use Rattle.rv_machine.specs.State.{Core, register_of, gives}
-use Rattle.rv_machine.specs.Memory.{word_at}
+use Rattle.size_table.specs.Memory.{word_at}
 use Rattle.rv_machine.specs.Instruction.{Act, Goes, Asks, effect, core_step, core_events, event_of}
 use Rattle.rv_machine.specs.Environment.{World}
 use Rattle.rv_machine.specs.Laws.{EndingStays, InstructionDone, WordsStand, StepsAdd}

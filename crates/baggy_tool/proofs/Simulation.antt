@@ -12,12 +12,13 @@ use Rattle.rv_image.specs.declared.image.Image.{Image}
 use Rattle.rv_machine.specs.declared.stop.Halt.{Halt}
 use Rattle.rv_machine.specs.declared.stop.Halt.TheVariants.{Exited}
 use Rattle.rv_machine.specs.State.{Core, State, memory_size, register_of}
-use Rattle.rv_machine.specs.Memory.{word_at, written_at, bytes_of_words, Stand}
+use Rattle.size_table.specs.Memory.{word_at, written_at, bytes_of_words, Stand}
 use Rattle.rv_machine.specs.Formed.{IsWord}
 use Rattle.rv_machine.specs.Instruction.{Goes, Asks, core_step}
-use Rattle.rv_machine.specs.Environment.{World, Tell, Happens, calls}
+use Rattle.rv_machine.specs.Environment.{World, calls}
+use Rattle.bb_watch.specs.Told.{Tell, Happens}
 use Rattle.rv_machine.specs.Machine.{step, steps, machine_after, IsBeforeCall}
-use Rattle.rv_machine.specs.Start.{start, start_memory, start_registers, start_frames}
+use Rattle.rv_machine.specs.Start.{start, start_memory, start_registers, fresh}
 use Rattle.baggy_tool.specs.declared.form.Summand.{Summand}
 use Rattle.baggy_tool.specs.Form.{with_summand, sum_from}
 use Rattle.baggy_tool.specs.Code.{summand_words, sum_words, exit_words, IsCompiled}
@@ -28,7 +29,7 @@ core_at pc r m = record { pc = pc; registers = r; memory = m }
 
 -- a machine that goes on, on some input, and with what it has told
 abbrev world : Core → List ℕ → List Tell → World
-world core input told = record { machine = record { core = core; frames = start_frames []; ending = None }; left = input; told = told }
+world core input told = record { machine = fresh core []; left = input; told = told }
 
 -- before each of the first n instructions, the only environment call is that of number 1
 abbrev OnlyExits : ℕ → World → Type 0
@@ -248,7 +249,7 @@ pub words_length : (ss : List Summand) → length (sum_words ss ++ exit_words) �
 words_length [] = refl
 words_length (s ∷ ss) = omega (arith, words_length ss)
 
-start_is : (image : Image) (ss : List Summand) → IsCompiled ss image → start image ≡ record { core = core_at 4096 start_registers (written_at (replicate memory_size 0) 4096 (bytes_of_words (sum_words ss ++ exit_words))); frames = start_frames []; ending = None }
+start_is : (image : Image) (ss : List Summand) → IsCompiled ss image → start image ≡ fresh (core_at 4096 start_registers (written_at (replicate memory_size 0) 4096 (bytes_of_words (sum_words ss ++ exit_words)))) []
 unfolding start start_memory
 start_is image ss h = rw (h.entry, h.text, h.globals, h.frames, h.initial) refl
 

@@ -1,1 +1,5 @@
 pub mod Kinds
+pub mod Told
+pub mod Live
+pub mod Safety
+pub mod Laws

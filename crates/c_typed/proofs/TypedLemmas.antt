@@ -1,22 +1,19 @@
 -- Facts on the typed tree.
-use Rattle.std.proofs.Common.{◌≡◌, ℕ, ◌≤◌, List, [], refl, arith, subst}
+use Rattle.std.proofs.Common.{◌≡◌, ℕ, ◌≤◌, List, refl, arith, subst}
 use Rattle.std.specs.Prelude.{All, Option, Some, None, slice_get}
 use Rattle.std.proofs.lemmas.Option.{slice_get_within, get_or_from_slice_get}
+use Rattle.c_words.specs.declared.place.At.{At}
 use Rattle.c_typed.specs.Types.{CType}
 use Rattle.c_typed.specs.TypedTree.{CExpr, CForm, CExprs, CStruct}
 use Rattle.c_typed.specs.Sizes.{largest, struct_size}
-use Rattle.c_typed.specs.Counts.{temps_of, temps_of_form, temps_of_call}
-use Rattle.c_typed.specs.Typed.{LiesIn, IsStruct}
+use Rattle.c_typed.specs.Walk.{walked_all}
+use Rattle.c_typed.specs.Counts.{temps_of, own_temps, temps_with}
+use Rattle.c_typed.specs.Typed.{IsStruct}
 use Rattle.c_typed.specs.TypedLaws.{TypesAreSmall, UndefinedIsEmpty, TempsAtLeastFour}
 
 -- what holds of each element holds of the one that is found
 pub All-slice_get : {X : Type 0} (P : X → Type 0) (xs : List X) (k : ℕ) (x : X) → All P xs → slice_get xs k ≡ Some x → P x
 All-slice_get P xs k x all found = subst P (get_or_from_slice_get xs k x x found) (all k x (slice_get_within xs k x found))
-
--- where there is no struct, none lies in another
-pub none_lies : {k j : ℕ} → LiesIn [] k j → ⊥
-none_lies (LiesIn.member s m i found is_member within) = cc
-none_lies (LiesIn.deeper first second) = none_lies first
 
 struct_is_small : (structs : List CStruct) (k : ℕ) (found : Option CStruct) → All (IsStruct structs) structs → slice_get structs k ≡ found → struct_size found ≤ largest
 struct_is_small structs k None all found = omega arith
@@ -39,33 +36,33 @@ undefined_is_empty structs s is_struct empty =
 
 mutual
   four_temps : (e : CExpr) → 4 ≤ temps_of e
-  four_temps (CExpr.expr at t form) = four_temps_of_form form
+  four_temps (CExpr.expr at t form) = four_temps_of_form at t form
 
-  four_temps_of_form : (form : CForm) → 4 ≤ temps_of_form form
-  four_temps_of_form (CForm.Local n) = omega arith
-  four_temps_of_form (CForm.Global n) = omega arith
-  four_temps_of_form (CForm.Text n) = omega arith
-  four_temps_of_form (CForm.Number n) = omega arith
-  four_temps_of_form (CForm.Character n) = omega arith
-  four_temps_of_form CForm.Null = omega arith
-  four_temps_of_form CForm.Eof = omega arith
-  four_temps_of_form (CForm.Convert c e) = four_temps e
-  four_temps_of_form (CForm.Index a b) = let first : 4 ≤ temps_of a = four_temps a in omega arith
-  four_temps_of_form (CForm.Call f es) = four_temps_of_call es
-  four_temps_of_form (CForm.Member e m) = four_temps e
-  four_temps_of_form (CForm.Arrow e m) = four_temps e
-  four_temps_of_form (CForm.StepBefore op e) = four_temps e
-  four_temps_of_form (CForm.StepAfter op e) = four_temps e
-  four_temps_of_form (CForm.Unary op e) = four_temps e
-  four_temps_of_form (CForm.Binary op a b) = let first : 4 ≤ temps_of a = four_temps a in omega arith
-  four_temps_of_form (CForm.Conditional c a b) = let first : 4 ≤ temps_of c = four_temps c in omega arith
-  four_temps_of_form (CForm.Assign op a b) = let first : 4 ≤ temps_of a = four_temps a in omega arith
-  four_temps_of_form (CForm.Comma a b) = let first : 4 ≤ temps_of a = four_temps a in omega arith
-  four_temps_of_form (CForm.Cast e) = four_temps e
-  four_temps_of_form (CForm.SizeofExpression e) = four_temps e
-  four_temps_of_form (CForm.SizeofType t) = omega arith
+  four_temps_of_form : (at : At) (t : CType) (form : CForm) → 4 ≤ temps_of (CExpr.expr at t form)
+  four_temps_of_form at t (CForm.Local n) = omega arith
+  four_temps_of_form at t (CForm.Global n) = omega arith
+  four_temps_of_form at t (CForm.Text n) = omega arith
+  four_temps_of_form at t (CForm.Number n) = omega arith
+  four_temps_of_form at t (CForm.Character n) = omega arith
+  four_temps_of_form at t CForm.Null = omega arith
+  four_temps_of_form at t CForm.Eof = omega arith
+  four_temps_of_form at t (CForm.Convert c e) = let first : 4 ≤ temps_of e = four_temps e in omega arith
+  four_temps_of_form at t (CForm.Index a b) = let first : 4 ≤ temps_of a = four_temps a in omega arith
+  four_temps_of_form at t (CForm.Call f es) = four_temps_of_call es
+  four_temps_of_form at t (CForm.Member e m) = let first : 4 ≤ temps_of e = four_temps e in omega arith
+  four_temps_of_form at t (CForm.Arrow e m) = let first : 4 ≤ temps_of e = four_temps e in omega arith
+  four_temps_of_form at t (CForm.StepBefore op e) = let first : 4 ≤ temps_of e = four_temps e in omega arith
+  four_temps_of_form at t (CForm.StepAfter op e) = let first : 4 ≤ temps_of e = four_temps e in omega arith
+  four_temps_of_form at t (CForm.Unary op e) = let first : 4 ≤ temps_of e = four_temps e in omega arith
+  four_temps_of_form at t (CForm.Binary op a b) = let first : 4 ≤ temps_of a = four_temps a in omega arith
+  four_temps_of_form at t (CForm.Conditional c a b) = let first : 4 ≤ temps_of c = four_temps c in omega arith
+  four_temps_of_form at t (CForm.Assign op a b) = let first : 4 ≤ temps_of a = four_temps a in omega arith
+  four_temps_of_form at t (CForm.Comma a b) = let first : 4 ≤ temps_of a = four_temps a in omega arith
+  four_temps_of_form at t (CForm.Cast e) = let first : 4 ≤ temps_of e = four_temps e in omega arith
+  four_temps_of_form at t (CForm.SizeofExpression e) = omega arith
+  four_temps_of_form at t (CForm.SizeofType u) = omega arith
 
-  four_temps_of_call : (es : CExprs) → 4 ≤ temps_of_call es
+  four_temps_of_call : (es : CExprs) → 4 ≤ temps_with (walked_all own_temps es)
   four_temps_of_call CExprs.none = omega arith
   four_temps_of_call (CExprs.more e es) = let first : 4 ≤ temps_of e = four_temps e in omega arith
 

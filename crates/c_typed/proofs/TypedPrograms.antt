@@ -1,15 +1,14 @@
 -- The judgement of the small programs.
-use Rattle.std.proofs.Common.{◌≡◌, ℕ, true, false, List, [], ◌∷◌, refl, sym, arith}
-use Rattle.std.specs.Prelude.{Some, slice_get}
-use Rattle.std.proofs.lemmas.List.Elements.{All-nil, All-cons, All-head, All-from_recursion}
-use Rattle.c_typed.specs.Types.{CType, is_struct}
-use Rattle.c_typed.specs.TypedTree.{CInitial, CStmt, CStmts, CLocal, CFunction, CProgram}
+use Rattle.std.proofs.Common.{◌≡◌, ℕ, List, [], ◌∷◌, ◌+◌, length, refl, arith, lit<}
+use Rattle.std.specs.Prelude.{Some, slice_get, codes}
+use Rattle.std.proofs.lemmas.List.Elements.{All-nil, All-cons, All-from_recursion}
+use Rattle.c_typed.specs.Types.{CType}
+use Rattle.c_typed.specs.TypedTree.{CLocal, CFunction, CProgram}
 use Rattle.c_typed.specs.Sizes.{IsType, IsComplete}
-use Rattle.c_typed.specs.TypedRules.{IsResult, IsSet}
-use Rattle.c_typed.specs.TypedBody.{Environment, IsLiteral, IsInitialized, IsStmt, AreStmts}
-use Rattle.c_typed.specs.Typed.{environment_of, IsStruct, IsFunction, IsLocalObject, IsGlobalObject, Typed}
-use Rattle.c_typed.specs.TypedLaws.{forty_two, main_function, main_of, return_number, number, token, mixed, assigns_to_number, returns_nothing, pointer_local, points, Mixed, NotTyped}
-use Rattle.c_typed.proofs.TypedLemmas.{none_lies}
+use Rattle.c_typed.specs.TypedRules.{IsResult}
+use Rattle.c_typed.specs.TypedBody.{IsLiteral}
+use Rattle.c_typed.specs.Typed.{IsStruct, IsFunction, IsLocalObject, IsGlobalObject, Typed}
+use Rattle.c_typed.specs.TypedLaws.{forty_two, main_function, return_number, mixed, Mixed, Strings}
 
 no_local : (p : CProgram) (f : CFunction) (k : ℕ) (l : CLocal) → slice_get [] k ≡ Some l → IsLocalObject p f k l
 no_local p f k l found = absurd cc
@@ -23,13 +22,13 @@ forty_two_body = record {
   params = All-nil _;
   locals = no_local _ _;
   block = tt;
-  body = (((tt, IsLiteral.int refl), (refl, refl)), tt);
+  body = (((tt, (IsLiteral.int refl, lit< tt)), (refl, refl)), tt);
 }
 
 pub forty_two_is_typed : Typed forty_two
 forty_two_is_typed = record {
   structs = All-nil (IsStruct []);
-  finite = λ k lies. none_lies lies;
+  ranked = record { rank = λ k. 0; rises = λ k j s m i found is_member within. absurd cc };
   globals = All-nil (IsGlobalObject forty_two);
   texts = All-nil _;
   functions = All-cons (IsFunction forty_two) _ [] forty_two_body (All-nil (IsFunction forty_two));
@@ -50,33 +49,13 @@ mixed_is_right = (
   refl,
 )
 
--- what the names of a `main` with these locals stand for
-abbrev names_in : List CLocal → CStmts → Environment
-names_in locals body = environment_of (main_of locals body) (main_function locals body)
+-- the length of a string is that of its type
+of_length : (n : ℕ) (bytes : List ℕ) → Some (codes "ab") ≡ Some bytes → CType.Array CType.Char n ≡ CType.Array CType.Char (length bytes + 1) → n ≡ 3
+of_length n bytes found is = let same : codes "ab" ≡ bytes = cc in let three : length bytes ≡ 2 = rw (← same) refl in let count : n ≡ length bytes + 1 = cc in omega arith
 
--- the statements of a typed `main` keep the rules
-body_of : (locals : List CLocal) (body : CStmts) → Typed (main_of locals body) → AreStmts (names_in locals body) false body
-body_of locals body typed = (All-head (IsFunction (main_of locals body)) _ [] typed.functions).body
-
--- a number is no place
-assignment : (names : Environment) → IsStmt names false assigns_to_number → ⊥
-assignment names typed = elim typed.0.1.2 [ IsSet.scalar assignable given same ↦ cc | IsSet.struct assignable copied same ↦ cc ]
-
--- a pointer is not given a number other than 0
-pointed : (names : Environment) (t : CType) → t ≡ CType.Pointer CType.Int → IsInitialized names t (CInitial.Value (number 10 5)) → ⊥
-pointed names t is_pointer (IsInitialized.parts value) = cc
-pointed names t is_pointer (IsInitialized.copy typed copied) =
-    let wrong : is_struct (CType.Pointer CType.Int) ≡ true = rw is_pointer at copied.struct in cc
-
-pointer : (names : Environment) (t : CType) → Some (CType.Pointer CType.Int) ≡ Some t → IsInitialized names t (CInitial.Value (number 10 5)) → ⊥
-pointer names t found initialized = pointed names t (let same : CType.Pointer CType.Int ≡ t = cc in sym same) initialized
-
-pub not_typed : NotTyped
-not_typed = (
-  λ typed. assignment (names_in [] (CStmts.more assigns_to_number CStmts.none)) (body_of [] (CStmts.more assigns_to_number CStmts.none) typed).0,
-  λ typed. cc ((body_of [] (CStmts.more returns_nothing CStmts.none) typed).0.1),
-  λ typed. cc ((body_of [] (CStmts.more (CStmt.Break (token 6)) CStmts.none) typed).0),
-  λ typed.
-      let declared = (body_of (pointer_local ∷ []) points typed).0 in
-      pointer (names_in (pointer_local ∷ []) points) declared.type declared.found declared.initialized,
+pub strings_are : Strings
+strings_are = (
+  ((tt, refl, omega arith, omega arith), record { bytes = codes "ab"; found = refl; type = refl }),
+  λ typed. let three : 2 ≡ 3 = of_length 2 typed.1.bytes typed.1.found typed.1.type in omega arith,
+  λ typed. cc typed.1.found,
 )

@@ -1,11 +1,15 @@
 pub mod Types
 pub mod TypesViewed
+pub mod Numbers
 pub mod TypedTree
 pub mod TypedViews
 pub mod Sizes
+pub mod Walk
 pub mod Counts
 pub mod TypedOperands
 pub mod TypedRules
 pub mod TypedBody
 pub mod Typed
+pub mod SizeLaws
 pub mod TypedLaws
+pub mod TypedRefused

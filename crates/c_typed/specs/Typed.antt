@@ -1,108 +1,31 @@
 -- When a typed program keeps the rules of typing.
-use Rattle.std.specs.Prelude.{◌≡◌, ℕ, ◌+◌, ◌<◌, ◌≤◌, Bool, false, ◌||◌, ◌==◌, All, Option, Some, None, List, [], ◌∷◌, length, map, take, slice_get, codes}
-use Rattle.c_words.specs.declared.operators.UnaryOperator.{UnaryOperator}
-use Rattle.c_words.specs.declared.operators.UnaryOperator.TheVariants.{Address, Dereference, Plus, Minus, Complement, Not}
+use Rattle.std.specs.Prelude.{◌≡◌, ℕ, ◌+◌, ◌<◌, ◌≤◌, nat_le, Bool, true, false, ◌&&◌, ◌||◌, ◌==◌, IsTrue, All, Option, Some, None, List, length, map, take, slice_get, codes}
+use Rattle.c_words.specs.declared.place.At.{At}
+use Rattle.c_words.specs.declared.operators.UnaryOperator.TheVariants.{Address}
 use Rattle.c_typed.specs.declared.typed.GlobalObject.{GlobalObject}
 use Rattle.c_typed.specs.declared.typed.GlobalObject.TheVariants.{Named, Text}
 use Rattle.c_typed.specs.declared.typed.InitialByte.{InitialByte}
 use Rattle.c_typed.specs.declared.typed.InitialByte.TheVariants.{Byte, PointerPart}
 use Rattle.c_typed.specs.Types.{CType, is_array, is_struct, IsScalar}
-use Rattle.c_typed.specs.TypedTree.{CExpr, CForm, CExprs, CInitial, CInitials, CInitializer, CDeclaration, CStart, CStmt, CStmts, CMember, CStruct, CGlobal, CLocal, CFunction, CProgram}
+use Rattle.c_typed.specs.TypedTree.{CExpr, CForm, CInitial, CInitializer, CStmt, CMember, CStruct, CGlobal, CLocal, CFunction, CProgram, at_of}
+use Rattle.c_typed.specs.Walk.{every_expr, some_expr_in, over_stmt}
 use Rattle.c_typed.specs.Sizes.{largest, size_of, IsComplete, IsType, rounded_up, AreInOrder, end_of, greatest_align}
 use Rattle.c_typed.specs.TypedRules.{IsResult, prototype_of}
-use Rattle.c_typed.specs.TypedBody.{Environment, IsStmt}
+use Rattle.c_typed.specs.TypedBody.{Environment, IsBytes, IsStmt}
 
--- Whether `&` is applied to local k, also below `sizeof`.
+-- whether an expression is local k
 abbrev pub is_local : ℕ → CExpr → Bool
 is_local k (CExpr.expr at t (CForm.Local n)) = k == n
 is_local k (CExpr.expr at t _) = false
 
-abbrev pub applied_to : ℕ → UnaryOperator → CExpr → Bool
-applied_to k Address e = is_local k e
-applied_to k Dereference e = false
-applied_to k Plus e = false
-applied_to k Minus e = false
-applied_to k Complement e = false
-applied_to k Not e = false
+-- whether an expression is `&` applied to local k
+abbrev pub refers_to : ℕ → CExpr → Bool
+refers_to k (CExpr.expr at t (CForm.Unary Address e)) = is_local k e
+refers_to k (CExpr.expr at t _) = false
 
-abbrev mutual
-  pub refers : ℕ → CExpr → Bool
-  refers k (CExpr.expr at t form) = refers_in k form
-
-  pub refers_in : ℕ → CForm → Bool
-  refers_in k (CForm.Local n) = false
-  refers_in k (CForm.Global n) = false
-  refers_in k (CForm.Text n) = false
-  refers_in k (CForm.Number n) = false
-  refers_in k (CForm.Character n) = false
-  refers_in k CForm.Null = false
-  refers_in k CForm.Eof = false
-  refers_in k (CForm.Convert c e) = refers k e
-  refers_in k (CForm.Index a b) = refers k a || refers k b
-  refers_in k (CForm.Call f es) = some_refers k es
-  refers_in k (CForm.Member e m) = refers k e
-  refers_in k (CForm.Arrow e m) = refers k e
-  refers_in k (CForm.StepBefore op e) = refers k e
-  refers_in k (CForm.StepAfter op e) = refers k e
-  refers_in k (CForm.Unary op e) = applied_to k op e || refers k e
-  refers_in k (CForm.Binary op a b) = refers k a || refers k b
-  refers_in k (CForm.Conditional c a b) = refers k c || refers k a || refers k b
-  refers_in k (CForm.Assign op a b) = refers k a || refers k b
-  refers_in k (CForm.Comma a b) = refers k a || refers k b
-  refers_in k (CForm.Cast e) = refers k e
-  refers_in k (CForm.SizeofExpression e) = refers k e
-  refers_in k (CForm.SizeofType t) = false
-
-  pub some_refers : ℕ → CExprs → Bool
-  some_refers k CExprs.none = false
-  some_refers k (CExprs.more e es) = refers k e || some_refers k es
-
-abbrev mutual
-  pub initial_refers : ℕ → CInitial → Bool
-  initial_refers k (CInitial.Value e) = refers k e
-  initial_refers k (CInitial.Text at bytes) = false
-  initial_refers k (CInitial.Braces at parts) = some_initial_refers k parts
-
-  pub some_initial_refers : ℕ → CInitials → Bool
-  some_initial_refers k CInitials.none = false
-  some_initial_refers k (CInitials.more x xs) = initial_refers k x || some_initial_refers k xs
-
-abbrev pub initializer_refers : ℕ → Option CInitializer → Bool
-initializer_refers k None = false
-initializer_refers k (Some i) = initial_refers k i.value
-
-abbrev pub some_declaration_refers : ℕ → List CDeclaration → Bool
-some_declaration_refers k [] = false
-some_declaration_refers k (d ∷ ds) = initializer_refers k d.initializer || some_declaration_refers k ds
-
-abbrev pub start_refers : ℕ → CStart → Bool
-start_refers k CStart.Nothing = false
-start_refers k (CStart.Eval e) = refers k e
-start_refers k (CStart.Declare ds) = some_declaration_refers k ds
-
-abbrev pub option_refers : ℕ → Option CExpr → Bool
-option_refers k None = false
-option_refers k (Some e) = refers k e
-
-abbrev mutual
-  pub stmt_refers : ℕ → CStmt → Bool
-  stmt_refers k (CStmt.Block at xs) = some_stmt_refers k xs
-  stmt_refers k (CStmt.Declare d) = initializer_refers k d.initializer
-  stmt_refers k (CStmt.Empty at) = false
-  stmt_refers k (CStmt.Eval at e) = refers k e
-  stmt_refers k (CStmt.If at c x) = refers k c || stmt_refers k x
-  stmt_refers k (CStmt.IfElse at c x y) = refers k c || stmt_refers k x || stmt_refers k y
-  stmt_refers k (CStmt.While at c x) = refers k c || stmt_refers k x
-  stmt_refers k (CStmt.Do at x c) = stmt_refers k x || refers k c
-  stmt_refers k (CStmt.For at start c step x) =
-      start_refers k start || option_refers k c || option_refers k step || stmt_refers k x
-  stmt_refers k (CStmt.Break at) = false
-  stmt_refers k (CStmt.Continue at) = false
-  stmt_refers k (CStmt.Return at e) = option_refers k e
-
-  pub some_stmt_refers : ℕ → CStmts → Bool
-  some_stmt_refers k CStmts.none = false
-  some_stmt_refers k (CStmts.more x xs) = stmt_refers k x || some_stmt_refers k xs
+-- Whether `&` is applied to local k in a statement, also below `sizeof`.
+abbrev pub stmt_refers : ℕ → CStmt → Bool
+stmt_refers k x = some_expr_in (refers_to k) x
 
 -- 6.7.2.1 p3, p14, p15, p17: The members of a struct have complete types and lie in order, each at the next multiple of
 -- its alignment. The struct's alignment is the greatest of theirs, and its size is rounded up to it. A tag that is never
@@ -125,6 +48,12 @@ pub data LiesIn (structs : List CStruct) : ℕ → ℕ → Type 0 where
   member : {k j : ℕ} (s : CStruct) (m : CMember) (i : ℕ) → slice_get structs j ≡ Some s → slice_get s.members i ≡ Some m → IsIn k m.ty → LiesIn structs k j
   deeper : {k i j : ℕ} → LiesIn structs k i → LiesIn structs i j → LiesIn structs k j
 
+-- 6.7.2.1 p3: A struct lies only in structs of a higher rank, such as the place of its definition among all. So none
+-- lies in itself, and what holds of a struct if it holds of those in it holds of all.
+pub record AreRanked (structs : List CStruct) : Type 0 where
+  pub rank : ℕ → ℕ
+  pub rises : (k j : ℕ) (s : CStruct) (m : CMember) (i : ℕ) → slice_get structs j ≡ Some s → slice_get s.members i ≡ Some m → IsIn k m.ty → rank k < rank j
+
 -- a global object of the program
 abbrev pub IsObject : CProgram → GlobalObject → Type 0
 IsObject p (Named k) = k < length p.globals
@@ -132,7 +61,7 @@ IsObject p (Text k) = k < length p.texts
 
 -- 6.7.9 p4: A byte of a global is a number, or one of the four parts of a pointer to a global object.
 abbrev pub IsInitialByte : CProgram → InitialByte → Type 0
-IsInitialByte p (Byte b) = Unit {0}
+IsInitialByte p (Byte b) = b < 256
 IsInitialByte p (PointerPart target part) = IsObject p target × (part < 4)
 
 -- 6.7 p7, 6.7.9: A global has a complete type and the size of it, and what it holds at first is no longer.
@@ -185,14 +114,63 @@ pub record IsMain (p : CProgram) : Type 0 where
   pub result : function.result ≡ CType.Int
   pub params : function.params ≡ 0
 
+-- 6.4.5: A string has bytes, and with its final zero at most as many as an object may have.
+abbrev pub IsString : List ℕ → Type 0
+IsString bytes = IsBytes bytes × (length bytes + 1 ≤ largest)
+
 -- The program keeps every rule of typing: each struct has the layout that its members give it and does not lie in
 -- itself, each object has the size of its type, no string and no type has more than 1,048,576 bytes, each function's
 -- body is typed, and there are at most 1,000 functions.
 pub record Typed (p : CProgram) : Type 0 where
   pub structs : All (IsStruct p.structs) p.structs
-  pub finite : (k : ℕ) → ¬ LiesIn p.structs k k
+  pub ranked : AreRanked p.structs
   pub globals : All (IsGlobalObject p) p.globals
-  pub texts : All (λ bytes. length bytes + 1 ≤ largest) p.texts
+  pub texts : All IsString p.texts
   pub functions : All (IsFunction p) p.functions
   pub functions_few : length p.functions ≤ 1000
   pub main : IsMain p
+
+-- a line of a text of at most 1,048,576 bytes, that has a token
+abbrev pub is_line : ℕ → Bool
+is_line n = nat_le 1 n && nat_le n 1048575
+
+abbrev pub stands_on_line : At → Bool
+stands_on_line at = is_line at.line
+
+abbrev pub initial_on_line : CInitial → Bool
+initial_on_line (CInitial.Value e) = true
+initial_on_line (CInitial.Text at bytes) = stands_on_line at
+initial_on_line (CInitial.Braces at parts) = stands_on_line at
+
+abbrev pub initializer_on_line : Option CInitializer → Bool
+initializer_on_line None = true
+initializer_on_line (Some i) = stands_on_line i.at
+
+abbrev pub statement_on_line : CStmt → Bool
+statement_on_line (CStmt.Block at xs) = stands_on_line at
+statement_on_line (CStmt.Declare d) = true
+statement_on_line (CStmt.Empty at) = stands_on_line at
+statement_on_line (CStmt.Eval at e) = stands_on_line at
+statement_on_line (CStmt.If at c x) = stands_on_line at
+statement_on_line (CStmt.IfElse at c x y) = stands_on_line at
+statement_on_line (CStmt.While at c x) = stands_on_line at
+statement_on_line (CStmt.Do at x c) = stands_on_line at
+statement_on_line (CStmt.For at start c step x) = stands_on_line at
+statement_on_line (CStmt.Break at) = stands_on_line at
+statement_on_line (CStmt.Continue at) = stands_on_line at
+statement_on_line (CStmt.Return at e) = stands_on_line at
+
+-- whether all that stands in a statement has a line
+abbrev pub stmt_on_lines : CStmt → Bool
+stmt_on_lines x = over_stmt (record {
+  nothing = true;
+  both = λ a b. a && b;
+  expr = every_expr (λ e. stands_on_line (at_of e));
+  initial = initial_on_line;
+  declaration = λ d. stands_on_line d.at && initializer_on_line d.initializer;
+  statement = statement_on_line;
+}) x
+
+-- Each line of the program is one of a text of at most 1,048,576 bytes.
+abbrev pub HasLines : CProgram → Type 0
+HasLines p = All (λ f. IsTrue (is_line f.line && stmt_on_lines f.body)) p.functions

@@ -1,5 +1,5 @@
 -- When the typed tree of a function's body keeps the rules of typing.
-use Rattle.std.specs.Prelude.{◌≡◌, ℕ, suc, ◌+◌, Bool, ◌||◌, true, IsTrue, Option, Some, None, List, [], ◌∷◌, length, slice_get}
+use Rattle.std.specs.Prelude.{◌≡◌, ℕ, suc, ◌+◌, ◌<◌, ◌^◌, All, Bool, ◌||◌, true, IsTrue, Option, Some, None, List, [], ◌∷◌, length, slice_get}
 use Rattle.c_typed.specs.Types.{CType, is_array, is_struct}
 use Rattle.c_typed.specs.TypedTree.{CExpr, CForm, CExprs, CInitial, CInitials, CInitializer, CDeclaration, CStart, CStmt, CStmts, CStruct}
 use Rattle.c_typed.specs.Sizes.{IsComplete, IsType}
@@ -10,6 +10,10 @@ use Rattle.c_typed.specs.TypedRules.{Prototype, IsCondition, IsUnary, IsBinary, 
 pub data IsLiteral (t : CType) : Type 0 where
   int : t ≡ CType.Int → IsLiteral t
   unsigned : t ≡ CType.Unsigned → IsLiteral t
+
+-- each of these numbers is a byte
+abbrev pub IsBytes : List ℕ → Type 0
+IsBytes bytes = All (λ b. b < 256) bytes
 
 -- What the names in a function stand for: the structs, the types of the global objects, the strings, the prototypes of
 -- the functions, the types of the locals, and the type of the function's result.
@@ -37,8 +41,8 @@ module _ (names : Environment) where
     IsForm t (CForm.Local k) = slice_get names.locals k ≡ Some t
     IsForm t (CForm.Global k) = slice_get names.globals k ≡ Some t
     IsForm t (CForm.Text k) = IsText names.texts k t
-    IsForm t (CForm.Number n) = IsLiteral t
-    IsForm t (CForm.Character n) = t ≡ CType.Int
+    IsForm t (CForm.Number n) = IsLiteral t × (n < 2 ^ 32)
+    IsForm t (CForm.Character n) = (t ≡ CType.Int) × (n < 256)
     IsForm t CForm.Null = t ≡ CType.Pointer CType.Void
     IsForm t CForm.Eof = t ≡ CType.Int
     IsForm t (CForm.Convert c e) = IsExpr e × IsConversion c e t
@@ -66,7 +70,7 @@ module _ (names : Environment) where
     -- parts between braces, each for its own part in order, and no more than there are.
     pub IsInitial : CType → CInitial → Type 0
     IsInitial t (CInitial.Value e) = IsExpr e × IsGiven t e
-    IsInitial t (CInitial.Text at bytes) = IsFilled t bytes
+    IsInitial t (CInitial.Text at bytes) = IsBytes bytes × IsFilled t bytes
     IsInitial t (CInitial.Braces at parts) = IsTrue (is_array t || is_struct t) × AreInitials t 0 parts
 
     -- for the parts from part i on

@@ -1,12 +1,17 @@
 -- What follows from the definitions of the typed tree, and small programs by which they can be judged.
-use Rattle.std.specs.Prelude.{◌≡◌, ℕ, ◌≤◌, false, All, Some, None, List, [], ◌∷◌, replicate, codes}
+use Rattle.std.specs.Prelude.{◌≡◌, ℕ, ◌≤◌, true, false, ◌||◌, IsTrue, All, Some, None, List, [], ◌∷◌, replicate, codes}
 use Rattle.c_words.specs.declared.place.At.{At}
-use Rattle.c_words.specs.declared.operators.AssignOperator.TheVariants.{Assign}
-use Rattle.c_typed.specs.Types.{CType}
-use Rattle.c_typed.specs.TypedTree.{CExpr, CForm, CInitial, CStmt, CStmts, CStruct, CLocal, CFunction, CProgram}
+use Rattle.c_words.specs.declared.operators.BinaryOperator.TheVariants.{Add}
+use Rattle.c_words.specs.declared.operators.UnaryOperator.TheVariants.{Address}
+use Rattle.c_typed.specs.declared.typed_expr.Called.TheVariants.{Defined}
+use Rattle.c_typed.specs.Types.{CType, is_struct, is_array}
+use Rattle.c_typed.specs.TypedTree.{CExpr, CForm, CExprs, CInitial, CInitials, CStart, CStmt, CStmts, CStruct, CLocal, CFunction, CProgram, type_of}
 use Rattle.c_typed.specs.Sizes.{largest, size_of, IsType}
-use Rattle.c_typed.specs.Counts.{nodes_of_program, temps_of, values_of}
-use Rattle.c_typed.specs.Typed.{IsStruct, Typed}
+use Rattle.c_typed.specs.Counts.{nodes_of, nodes_of_stmt, nodes_of_program, temps_of, values_of}
+use Rattle.c_typed.specs.TypedOperands.{has_object}
+use Rattle.c_typed.specs.TypedRules.{IsResult}
+use Rattle.c_typed.specs.TypedBody.{Environment, IsExpr}
+use Rattle.c_typed.specs.Typed.{stmt_refers, IsStruct, Typed}
 
 -- No type has more than 1,048,576 bytes.
 abbrev pub TypesAreSmall : Type 0
@@ -79,34 +84,69 @@ mixed = record {
 abbrev pub Mixed : Type 0
 Mixed = IsStruct (mixed ∷ []) mixed × (size_of (mixed ∷ []) (CType.Array (CType.Struct 0) 5) ≡ 80)
 
--- a program whose `main` has one statement
-abbrev pub doing : CStmt → CProgram
-doing x = main_of [] (CStmts.more x CStmts.none)
+-- The temporaries of `1`, `1 + 2`, `1 + (2 + 3)`, `sizeof (1 + 2)`, `f()`, `f(1, 2, 3)` and `1 ? 2 : 3`.
+abbrev pub sum_of : CExpr → CExpr → CExpr
+sum_of a b = CExpr.expr (token 7) CType.Int (CForm.Binary Add a b)
 
--- `1 = 2;`: what is assigned to is no place.
-abbrev pub assigns_to_number : CStmt
-assigns_to_number = CStmt.Eval (token 7) (CExpr.expr (token 7) CType.Int (CForm.Assign Assign (number 6 1) (number 8 2)))
+abbrev pub one : CExpr
+one = number 7 1
 
--- `return;` gives no value where there must be one.
-abbrev pub returns_nothing : CStmt
-returns_nothing = CStmt.Return (token 6) None
+abbrev pub call_with : CExprs → CExpr
+call_with es = CExpr.expr (token 7) CType.Int (CForm.Call (Defined 0) es)
 
--- A `main` with `int *p = 5;`, whose pointer is given a number other than 0.
-abbrev pub pointer_local : CLocal
-pointer_local = record { name = codes "p"; ty = CType.Pointer CType.Int; size = 4; is_block = false }
+abbrev pub Temporaries : Type 0
+Temporaries =
+    (temps_of one ≡ 4) × (temps_of (sum_of one one) ≡ 5) × (temps_of (sum_of one (sum_of one one)) ≡ 6)
+    × (temps_of (sum_of (sum_of one one) one) ≡ 5)
+    × (temps_of (CExpr.expr (token 7) CType.Unsigned (CForm.SizeofExpression (sum_of one one))) ≡ 4)
+    × (temps_of (call_with CExprs.none) ≡ 4)
+    × (temps_of (call_with (CExprs.more one (CExprs.more one (CExprs.more one CExprs.none)))) ≡ 6)
+    × (temps_of (CExpr.expr (token 7) CType.Int (CForm.Conditional one one one)) ≡ 6)
 
-abbrev pub points : CStmts
-points = CStmts.more (CStmt.Declare (record {
-  at = token 8;
-  local = 0;
-  initializer = Some (record { at = token 9; value = CInitial.Value (number 10 5) });
-})) CStmts.none
+-- The nodes of `1 + 2`, `sizeof (1 + 2)`, `f(1, 2)`, of `char a[3] = "ab";`, `int a[2] = { 1, 2 };` and
+-- `for (;;) { ; break; }`.
+abbrev pub declared_as : CInitial → CStmt
+declared_as x = CStmt.Declare (record { at = token 6; local = 0; initializer = Some (record { at = token 7; value = x }) })
 
-abbrev pub points_to_number : CProgram
-points_to_number = main_of (pointer_local ∷ []) points
+abbrev pub Nodes : Type 0
+Nodes =
+    (nodes_of (sum_of one one) ≡ 3)
+    × (nodes_of (CExpr.expr (token 7) CType.Unsigned (CForm.SizeofExpression (sum_of one one))) ≡ 1)
+    × (nodes_of (call_with (CExprs.more one (CExprs.more one CExprs.none))) ≡ 3)
+    × (nodes_of_stmt (declared_as (CInitial.Text (token 8) (codes "ab"))) ≡ 4)
+    × (nodes_of_stmt (declared_as (CInitial.Braces (token 8) (CInitials.more (CInitial.Value one) (CInitials.more (CInitial.Value one) CInitials.none)))) ≡ 3)
+    × (nodes_of_stmt (CStmt.For (token 6) CStart.Nothing None None (CStmt.Block (token 7) (CStmts.more (CStmt.Empty (token 8)) (CStmts.more (CStmt.Break (token 9)) CStmts.none)))) ≡ 4)
 
--- None of these programs is typed, nor is one with `break;` in no loop.
-abbrev pub NotTyped : Type 0
-NotTyped =
-    ¬ Typed (doing assigns_to_number) × ¬ Typed (doing returns_nothing) × ¬ Typed (doing (CStmt.Break (token 6)))
-    × ¬ Typed points_to_number
+-- Whether `&` is applied to local 0: in a nested expression, below `sizeof`, in an initializer, in the step of a `for`;
+-- not where its value is used alone, and not to another local.
+abbrev pub local : ℕ → CExpr
+local k = CExpr.expr (token 7) CType.Int (CForm.Local k)
+
+abbrev pub address : CExpr → CExpr
+address e = CExpr.expr (token 6) (CType.Pointer CType.Int) (CForm.Unary Address e)
+
+abbrev pub Referred : Type 0
+Referred =
+    (stmt_refers 0 (CStmt.Eval (token 5) (call_with (CExprs.more one (CExprs.more (address (local 0)) CExprs.none)))) ≡ true)
+    × (stmt_refers 0 (CStmt.Eval (token 5) (CExpr.expr (token 5) CType.Unsigned (CForm.SizeofExpression (address (local 0))))) ≡ true)
+    × (stmt_refers 0 (declared_as (CInitial.Braces (token 8) (CInitials.more (CInitial.Value one) (CInitials.more (CInitial.Value (address (local 0))) CInitials.none)))) ≡ true)
+    × (stmt_refers 0 (CStmt.For (token 4) CStart.Nothing None (Some (address (local 0))) (CStmt.Empty (token 9))) ≡ true)
+    × (stmt_refers 0 (CStmt.Eval (token 5) (sum_of (local 0) (local 0))) ≡ false)
+    × (stmt_refers 0 (CStmt.Eval (token 5) (sum_of (local 0) (address (local 1)))) ≡ false)
+
+-- 6.4.5 p6: a string of two bytes is an array of three, and only the program's string of its number
+abbrev pub names_text : List ℕ → Environment
+names_text bytes = record { structs = []; globals = []; texts = bytes ∷ []; functions = []; locals = []; result = CType.Int }
+
+abbrev pub Strings : Type 0
+Strings =
+    IsExpr (names_text (codes "ab")) (CExpr.expr (token 7) (CType.Array CType.Char 3) (CForm.Text 0))
+    × ¬ IsExpr (names_text (codes "ab")) (CExpr.expr (token 7) (CType.Array CType.Char 2) (CForm.Text 0))
+    × ¬ IsExpr (names_text (codes "ab")) (CExpr.expr (token 7) (CType.Array CType.Char 3) (CForm.Text 1))
+
+-- Where no function gives a struct or an array, each typed expression that is one names an object, in which its value is
+-- found.
+abbrev pub AggregatesHaveObjects : Type 0
+AggregatesHaveObjects =
+    (names : Environment) (e : CExpr) → All (λ f. IsResult f.result) names.functions → IsExpr names e
+    → IsTrue (is_struct (type_of e) || is_array (type_of e)) → IsTrue (has_object e)

@@ -46,6 +46,36 @@ abbrev mutual
   is_place_form (CForm.SizeofExpression e) = false
   is_place_form (CForm.SizeofType t) = false
 
+-- What names an object, or a part of one, though it may be no place: a place; a comma whose right operand names one; and
+-- a member of that. `(1, s).m` is no place, and yet its value is found in the object `s`.
+abbrev mutual
+  pub has_object : CExpr → Bool
+  has_object (CExpr.expr at t form) = has_object_form form
+
+  pub has_object_form : CForm → Bool
+  has_object_form (CForm.Local n) = true
+  has_object_form (CForm.Global n) = true
+  has_object_form (CForm.Text n) = true
+  has_object_form (CForm.Index a b) = true
+  has_object_form (CForm.Arrow e m) = true
+  has_object_form (CForm.Member e m) = has_object e
+  has_object_form (CForm.Unary op e) = is_dereference op
+  has_object_form (CForm.Comma a b) = has_object b
+  has_object_form (CForm.Number n) = false
+  has_object_form (CForm.Character n) = false
+  has_object_form CForm.Null = false
+  has_object_form CForm.Eof = false
+  has_object_form (CForm.Convert c e) = false
+  has_object_form (CForm.Call f es) = false
+  has_object_form (CForm.StepBefore op e) = false
+  has_object_form (CForm.StepAfter op e) = false
+  has_object_form (CForm.Binary op a b) = false
+  has_object_form (CForm.Conditional c a b) = false
+  has_object_form (CForm.Assign op a b) = false
+  has_object_form (CForm.Cast e) = false
+  has_object_form (CForm.SizeofExpression e) = false
+  has_object_form (CForm.SizeofType t) = false
+
 -- 6.3.2.3 p3: the null constants are the number 0, however it is written, and `NULL`
 abbrev pub is_null : CExpr → Bool
 is_null (CExpr.expr at t (CForm.Number n)) = n == 0

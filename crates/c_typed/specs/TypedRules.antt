@@ -1,6 +1,6 @@
 -- The rules of typing, one definition each: what the operands of an operator and its type are (C11 6.5), what an
 -- initializer fits (6.7.9), and what a function may be (6.7.6.3, 6.9.1).
-use Rattle.std.specs.Prelude.{◌≡◌, ◌≢◌, ℕ, ◌≤◌, nat_lt, false, IsTrue, if◌then◌else◌, Option, Some, None, List, [], ◌∷◌, length, map, take, slice_get}
+use Rattle.std.specs.Prelude.{◌≡◌, ℕ, ◌≤◌, nat_lt, false, IsTrue, if◌then◌else◌, Option, Some, None, List, [], ◌∷◌, length, map, take, slice_get}
 use Rattle.c_words.specs.declared.operators.UnaryOperator.{UnaryOperator}
 use Rattle.c_words.specs.declared.operators.UnaryOperator.TheVariants as unary
 use Rattle.c_words.specs.declared.operators.BinaryOperator.{BinaryOperator}
@@ -30,10 +30,6 @@ IsPointerToComplete structs (CType.Array t n) = ⊥
 pub record IsCondition (e : CExpr) : Type 0 where
   pub plain : IsPlain e
   pub scalar : IsScalar (type_of e)
-
--- 6.3.2.2: A void expression has no value to use.
-abbrev pub IsUsable : CExpr → Type 0
-IsUsable e = type_of e ≢ CType.Void
 
 -- 6.5.16 p2, 6.3.2.1 p1: What is assigned to is a place, and no array.
 pub record IsAssignable (e : CExpr) : Type 0 where
@@ -223,11 +219,10 @@ IsAssignment structs assign.BitAnd a b t = IsReckoned a b t
 IsAssignment structs assign.BitXor a b t = IsReckoned a b t
 IsAssignment structs assign.BitOr a b t = IsReckoned a b t
 
--- 6.5.17 p2: The left operand of a comma may be void; the right one is the value.
+-- 6.5.17 p2: The right operand of a comma gives its type. Either may be void or a struct: a comma uses no value.
 pub record AreInTurn (a b : CExpr) (t : CType) : Type 0 where
   pub left : IsPlain a
   pub right : IsPlain b
-  pub used : IsUsable b
   pub result : t ≡ type_of b
 
 -- 6.5.4 p2: A cast is between numbers, between pointers, from a null constant to a pointer, or to void. What is cast is

@@ -1,8 +1,8 @@
 //! The typed program.
-use c_words::place::Name;
 use crate::typed_stmt::TypedStmt;
 use crate::types::{StructType, Ty};
 use bb_words::list::{Bytes, List};
+use c_words::place::Name;
 
 /// An object that lives as long as the program: a named one, or a string.
 #[derive(Clone, Copy, Debug, PartialEq, Eq)]

@@ -26,9 +26,9 @@ ghost use Rattle.c_typed.specs.TypedTree.CForm.{Convert, Index, Member, Arrow, S
 ghost use Rattle.c_typed.specs.TypedOperands.{is_place, is_null};
 ghost use Rattle.c_typed.specs.TypedViews.{expr_of};
 
+use crate::types::Ty;
 use c_words::operators::{AssignOperator, BinaryOperator, StepOperator, UnaryOperator};
 use c_words::place::At;
-use crate::types::Ty;
 use std::alloc::{AllocError, Global};
 
 /// A function of the library.

@@ -4,8 +4,8 @@ ghost use Rattle.std.specs.Option.{option_map};
 ghost use Rattle.c_typed.specs.TypedTree.CStmt.{If, IfElse, While, Do, For};
 ghost use Rattle.c_typed.specs.TypedViews.{expr_of, start_of, stmt_of};
 
-use c_words::place::At;
 use crate::typed_expr::TypedExpr;
+use c_words::place::At;
 use std::alloc::{AllocError, Global};
 
 /// What an object is initialized with (C11 6.7.9).

@@ -1,9 +1,9 @@
 //! Each constructor that takes memory answers with what it makes.
-use c_words::operators::{AssignOperator, BinaryOperator, StepOperator, UnaryOperator};
-use c_words::place::At;
 use crate::typed_expr::{Conversion, TypedExpr, TypedForm};
 use crate::typed_stmt::{TypedStart, TypedStmt};
 use crate::types::Ty;
+use c_words::operators::{AssignOperator, BinaryOperator, StepOperator, UnaryOperator};
+use c_words::place::At;
 use std::alloc::Global;
 use std::test::Fail;
 

@@ -4,8 +4,8 @@ ghost use Rattle.c_typed.specs.Types.{same, is_number, is_pointer};
 ghost use Rattle.c_typed.specs.Types.CType.{Pointer, Array};
 ghost use Rattle.c_typed.specs.TypesViewed.{ty_of};
 
-use c_words::place::Name;
 use bb_words::list::List;
+use c_words::place::Name;
 use std::alloc::{AllocError, Global};
 
 /// A type. Contracts see it as a `CType`, by `ty_of`.

@@ -1,5 +1,5 @@
 //! The fields of instruction words, and their immediates.
-ghost use Rattle.std.specs.Prelude.{◌≡◌, ◌+◌, ◌-◌, ◌*◌, ◌/◌, ◌%◌, ◌^◌, ◌<◌, ◌≤◌};
+ghost use Rattle.std.specs.Prelude.{◌≡◌, ◌+◌, ◌-◌, ◌*◌, ◌/◌, ◌%◌, ◌^◌, ◌<◌, ◌≤◌, nat_lt, if◌then◌else◌};
 ghost use Rattle.rv_code.specs.Bits as spec;
 ghost use Rattle.rv_code.specs.Formats.{opcode_of, rd_of, funct3_of, rs1_of, rs2_of, funct7_of, funct12_of, i_immediate, s_immediate, b_immediate, u_immediate, j_immediate};
 
@@ -23,17 +23,16 @@ pub fn bit(n: u32, place: u32) -> u32
     (n >> place) % 2
 }
 
-/// A number of `width` bits, in two's complement, as a word.
+/// The bits from `low` up, in two's complement, as a word: LLVM makes one shift of it.
 #[inline]
-pub fn extended(width: u32, n: u32) -> u32
-    requires width { (0 < width) × (width < 32) }
-    requires within { n < 2 ^ width }
-    ensures { result ≡ spec.extended width n }
+fn signed_from(word: u32, low: u32) -> u32
+    requires { low < 32 }
+    ensures { result ≡ if nat_lt word 2147483648 then word / 2 ^ low else 4294967295 - (4294967295 - word) / 2 ^ low }
 {
-    if n < 1 << (width - 1) {
-        n
+    if word < 0x8000_0000 {
+        word >> low
     } else {
-        n + (u32::MAX - (1 << width) + 1)
+        u32::MAX - ((u32::MAX - word) >> low)
     }
 }
 
@@ -98,7 +97,7 @@ pub fn funct12(word: u32) -> u32
 pub fn immediate_i(word: u32) -> u32
     ensures { result ≡ i_immediate word }
 {
-    extended(12, bits(word, 31, 20))
+    signed_from(word, 20)
 }
 
 /// The immediate of the S format.
@@ -106,7 +105,8 @@ pub fn immediate_i(word: u32) -> u32
 pub fn immediate_s(word: u32) -> u32
     ensures { result ≡ s_immediate word }
 {
-    extended(12, (bits(word, 31, 25) << 5) + bits(word, 11, 7))
+    let high = signed_from(word, 20);
+    high - high % 32 + bits(word, 11, 7)
 }
 
 /// The immediate of the B format.
@@ -114,11 +114,9 @@ pub fn immediate_s(word: u32) -> u32
 pub fn immediate_b(word: u32) -> u32
     ensures { result ≡ b_immediate word }
 {
-    let high = (bit(word, 31) << 12) + (bit(word, 7) << 11);
-    extended(
-        13,
-        high + (bits(word, 30, 25) << 5) + (bits(word, 11, 8) << 1),
-    )
+    let high = signed_from(word, 19);
+    let middle = (bit(word, 7) << 11) + (bits(word, 30, 25) << 5);
+    high - high % 0x1000 + middle + (bits(word, 11, 8) << 1)
 }
 
 /// The immediate of the U format.
@@ -134,6 +132,7 @@ pub fn immediate_u(word: u32) -> u32
 pub fn immediate_j(word: u32) -> u32
     ensures { result ≡ j_immediate word }
 {
-    let high = (bit(word, 31) << 20) + (bits(word, 19, 12) << 12);
-    extended(21, high + (bit(word, 20) << 11) + (bits(word, 30, 21) << 1))
+    let high = signed_from(word, 11);
+    let middle = (bits(word, 19, 12) << 12) + (bit(word, 20) << 11);
+    high - high % 0x10_0000 + middle + (bits(word, 30, 21) << 1)
 }

@@ -5,6 +5,7 @@
 -- text as a whole. A rule that is broken is told by the place of the field's first byte.
 use Rattle.std.specs.Prelude.{◌≡◌, ◌==◌, ℕ, zero, suc, ◌+◌, ◌-◌, ◌*◌, ◌%◌, ◌^◌, List, [], ◌∷◌, length, slice_index, take, drop, Result, Ok, Err, Bool, true, not, ◌&&◌, nat_lt, nat_le, if◌then◌else◌}
 use Rattle.std.specs.Int.{w32, from_le_bytes}
+use Rattle.size_table.specs.declared.memory_map.TheConstants.{TEXT_START, TABLE_START}
 use Rattle.rv_image.specs.declared.image.Image.{Image}
 use Rattle.rv_image.specs.declared.error.ImageError.{ImageError}
 use Rattle.rv_image.specs.declared.error.ImageError.TheVariants.{Short, BadMagic, BadVersion, BadField, Extra, Memory}
@@ -35,7 +36,7 @@ number_at bytes at = do
 
 -- the magic, the version and the entry
 abbrev pub is_entry : ℕ → Bool
-is_entry n = (n % 4 == 0) && (nat_le 4096 n && nat_lt n 2097152)
+is_entry n = (n % 4 == 0) && (nat_le TEXT_START n && nat_lt n TABLE_START)
 
 unfoldable pub entry_of : List ℕ → Result ℕ ImageError
 entry_of bytes = do
@@ -116,7 +117,7 @@ words_of bytes = []
 
 -- the text has whole words, and the entry in it
 abbrev pub is_text_size : ℕ → ℕ → Bool
-is_text_size entry len = (len % 4 == 0) && (nat_le 4 len && (nat_le len 2093056 && nat_lt (entry - 4096) len))
+is_text_size entry len = (len % 4 == 0) && (nat_le 4 len && (nat_le len 2093056 && nat_lt (entry - TEXT_START) len))
 
 -- the words of the text behind the count of their bytes
 unfoldable pub text_at : List ℕ → ℕ → ℕ → Result (List ℕ) ImageError

@@ -1,6 +1,7 @@
 -- The rules that the fields of an image keep.
 use Rattle.std.specs.Prelude.{◌≡◌, ℕ, ◌+◌, ◌-◌, ◌*◌, ◌%◌, ◌^◌, ◌<◌, ◌≤◌, List, [], ◌∷◌, length}
 use Rattle.rv_image.specs.declared.image.Image.{Image}
+use Rattle.size_table.specs.declared.memory_map.TheConstants.{TEXT_START, TABLE_START, SLOT_EXPONENT}
 
 -- how many bytes the blocks of these exponents have
 abbrev pub total_size : List ℕ → ℕ
@@ -28,13 +29,13 @@ EndsNonzero [] = Unit {0}
 EndsNonzero (b ∷ []) = 0 < b
 EndsNonzero (b ∷ c ∷ bs) = EndsNonzero (c ∷ bs)
 
--- The text lies from 0x1000 to below 0x200000 and has the entry in it; the global blocks have at most 2 MiB, of which
+-- The text lies below the size table and has the entry in it; the global blocks have at most 2 MiB, of which
 -- the initial bytes are the first.
 pub record IsImage (image : Image) : Type 0 where
   pub version : image.version ≡ 1
   pub entry_aligned : image.entry % 4 ≡ 0
-  pub entry_low : 4096 ≤ image.entry
-  pub entry_high : image.entry < 2097152
+  pub entry_low : TEXT_START ≤ image.entry
+  pub entry_high : image.entry < TABLE_START
   pub globals_few : length image.globals ≤ 131072
   pub globals_decline : Decline 20 image.globals
   pub globals_fit : total_size image.globals ≤ 2097152
@@ -45,4 +46,8 @@ pub record IsImage (image : Image) : Type 0 where
   pub initial_ends : EndsNonzero image.initial
   pub text_some : 1 ≤ length image.text
   pub text_fits : 4 * length image.text ≤ 2093056
-  pub entry_within : image.entry - 4096 < 4 * length image.text
+  pub entry_within : image.entry - TEXT_START < 4 * length image.text
+
+-- the exponent of the slots of an image's memory: a slot has so many bytes as its power
+abbrev pub slot_of : Image → ℕ
+slot_of image = SLOT_EXPONENT

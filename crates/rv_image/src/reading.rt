@@ -8,6 +8,7 @@ ghost use Rattle.rv_image.specs.Reading.{Gives, GivesAs, rule, field_at, number_
 use crate::error::ImageError;
 use crate::image::Image;
 use bb_words::list::{Bytes, List};
+use size_table::memory_map::{TABLE_START, TEXT_START};
 use std::alloc::Global;
 
 // The letters BAGY as a number, the first of them in the lowest byte.
@@ -98,7 +99,7 @@ fn entry(bytes: &[u8]) -> Result<u32, ImageError>
     check(version == 1, ImageError::BadVersion { version })?;
     let entry = number(bytes, 8)?;
     check(
-        entry % 4 == 0 && 0x1000 <= entry && entry < 0x20_0000,
+        entry % 4 == 0 && TEXT_START <= entry && entry < TABLE_START,
         ImageError::BadField { at: 8 },
     )?;
     Ok(entry)

@@ -4,7 +4,7 @@ use Rattle.std.specs.Prelude.{All}
 use Rattle.std.proofs.lemmas.List.Elements.{All-nil, All-cons}
 use Rattle.std.proofs.lemmas.Nat.{pow_pos, pow-add, shr_split, mod_low}
 use Rattle.rv_image.specs.Rules.{Decline, total_size}
-use Rattle.rv_machine.specs.Blocks.{blocks_from}
+use Rattle.size_table.specs.Made.{blocks_from}
 use Rattle.size_table.specs.Blocks.{Block, block_at, end_of, IsBlock, MissesAll, AreDisjoint}
 
 abbrev pub LieBetween : (low high : ℕ) → List Block → Type 0

@@ -5,7 +5,7 @@ use Rattle.std.proofs.lemmas.Bool.{cases_lt}
 use Rattle.std.proofs.lemmas.List.{places, map-append, reverse-append}
 use Rattle.std.proofs.lemmas.List.Elements.{All-append, All-take, All-drop, All-replicate, All-head, All-tail}
 use Rattle.bb_watch.specs.declared.event.Event.{Event}
-use Rattle.rv_machine.specs.Blocks.{tabled, made, ended, all_made, all_ended}
+use Rattle.size_table.specs.Made.{tabled, made, ended, all_made, all_ended}
 use Rattle.rv_machine.specs.Changes.{IsOfBlock, IsOfEntry, NoneChanges, IsMadeIn}
 use Rattle.rv_machine.specs.Environment.{made_event, ended_event}
 use Rattle.rv_machine.specs.Formed.{IsByte}

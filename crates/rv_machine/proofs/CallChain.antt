@@ -7,7 +7,7 @@ use Rattle.std.proofs.lemmas.Nat.{shr_split}
 use Rattle.std.proofs.lemmas.Option.{slice_get_within, get_or_from_slice_get}
 use Rattle.rv_image.specs.Rules.{Decline, AreFrames, total_size}
 use Rattle.rv_machine.specs.declared.frames.Entered.{Entered}
-use Rattle.rv_machine.specs.Blocks.{blocks_from}
+use Rattle.size_table.specs.Made.{blocks_from}
 use Rattle.rv_machine.specs.Frames.{alignment, stack_under, IsCall, AreCalls}
 use Rattle.rv_machine.specs.Live.{frame_blocks, call_blocks}
 use Rattle.rv_machine.proofs.BlockLists.{LieBetween, between_append, between_wider, disjoint_down, from_between, from_disjoint, from_aligned, multiple}

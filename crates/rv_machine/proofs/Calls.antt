@@ -8,7 +8,8 @@ use Rattle.rv_machine.specs.declared.stop.Fault.TheVariants as fault
 use Rattle.rv_machine.specs.declared.stop.Halt.TheVariants.{Trapped}
 use Rattle.rv_machine.specs.State.{Core, State, register_of, halted, with_core}
 use Rattle.rv_machine.specs.Instruction.{Goes, Traps, Asks, core_step, core_events}
-use Rattle.rv_machine.specs.Environment.{Tell, calls, exits, gets, puts, reports, enters, enter_events, leaves, leave_events}
+use Rattle.rv_machine.specs.Environment.{calls, exits, gets, puts, reports, enters, enter_events, leaves, leave_events, mallocs, malloc_events, frees, free_events}
+use Rattle.bb_watch.specs.Told.{Tell}
 use Rattle.rv_machine.specs.Machine.{step, IsBeforeCall}
 use Rattle.rv_machine.specs.Runs.{Ran, Shown, Stepped}
 use Rattle.rv_machine.proofs.Steps.{step_acts}
@@ -25,6 +26,14 @@ call_gets s o s' o' h p = ran_same gets calls s o s' o' p (λ rest told e. rw h 
 pub call_puts : (s : State) (o : Shown) (s' : State) (o' : Shown) → register_of s.core 17 ≡ 3 → Ran puts s o s' o' → Ran calls s o s' o'
 unfolding calls
 call_puts s o s' o' h p = ran_same puts calls s o s' o' p (λ rest told e. rw h refl)
+
+pub call_mallocs : (s : State) (o : Shown) → register_of s.core 17 ≡ 4 → Ran calls s o (mallocs s) o
+unfolding calls
+call_mallocs s o h = ran_events calls s (mallocs s) o (malloc_events s) (λ left told. rw h refl)
+
+pub call_frees : (s : State) (o : Shown) → register_of s.core 17 ≡ 5 → Ran calls s o (frees s) o
+unfolding calls
+call_frees s o h = ran_events calls s (frees s) o (free_events s) (λ left told. rw h refl)
 
 pub call_reports : (s : State) (o : Shown) → register_of s.core 17 ≡ 6 → Ran calls s o (reports s) o
 unfolding calls
@@ -43,13 +52,15 @@ pub record IsNoCall (number : ℕ) : Type 0 where
   pub not_1 : number ≢ 1
   pub not_2 : number ≢ 2
   pub not_3 : number ≢ 3
+  pub not_4 : number ≢ 4
+  pub not_5 : number ≢ 5
   pub not_6 : number ≢ 6
   pub not_7 : number ≢ 7
   pub not_8 : number ≢ 8
 
 no_call : (s : State) (left : List ℕ) (told : List Tell) → IsNoCall (register_of s.core 17) → calls (record { machine = s; left = left; told = told }) ≡ record { machine = halted (Trapped Call) s; left = left; told = told }
 unfolding calls
-no_call s left told h = grind (arith, nat_tests, h.not_1, h.not_2, h.not_3, h.not_6, h.not_7, h.not_8)
+no_call s left told h = grind (arith, nat_tests, h.not_1, h.not_2, h.not_3, h.not_4, h.not_5, h.not_6, h.not_7, h.not_8)
 
 pub call_traps : (s : State) (o : Shown) → IsNoCall (register_of s.core 17) → Ran calls s o (halted (Trapped Call) s) o
 call_traps s o h = ran_quiet calls s (halted (Trapped Call) s) o (λ left told. no_call s left told h)

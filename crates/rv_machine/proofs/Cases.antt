@@ -7,7 +7,7 @@ use Rattle.rv_machine.specs.declared.frames.Entered.{Entered}
 use Rattle.rv_machine.specs.declared.frames.Entry.TheVariants.{NoFrame, TooDeep, NoRoom}
 use Rattle.rv_machine.specs.declared.stop.Halt.{Halt}
 use Rattle.rv_machine.specs.declared.stop.Halt.TheVariants.{Trapped}
-use Rattle.rv_machine.specs.Environment.{World, with_machine, telling, calls, exits, gets, puts, reports, enters, enter_events, leaves, leave_events}
+use Rattle.rv_machine.specs.Environment.{World, with_machine, telling, calls, exits, gets, puts, mallocs, malloc_events, frees, free_events, reports, enters, enter_events, leaves, leave_events}
 use Rattle.rv_machine.specs.Frames.{Entering, Leaving, enter, leave, refused, entered_at, not_left, left_to, stack_under}
 use Rattle.rv_machine.specs.Instruction.{Act, Goes, Traps, Asks, core_step, core_events}
 use Rattle.rv_machine.specs.Machine.{step, acted, unless_ended}
@@ -40,6 +40,8 @@ pub record InCalls (P : World → Type 0) (w : World) : Type 0 where
   pub exit : P (with_machine exits w)
   pub getchar : P (gets w)
   pub putchar : P (puts w)
+  pub malloc : P (telling malloc_events mallocs w)
+  pub free : P (telling free_events frees w)
   pub report : P (with_machine reports w)
   pub enter : P (telling enter_events enters w)
   pub leave : P (telling leave_events leaves w)
@@ -56,9 +58,11 @@ by_call P w c =
     either P (eqb n 1) _ _ c.exit (
     either P (eqb n 2) _ _ c.getchar (
     either P (eqb n 3) _ _ c.putchar (
+    either P (eqb n 4) _ _ c.malloc (
+    either P (eqb n 5) _ _ c.free (
     either P (eqb n 6) _ _ c.report (
     either P (eqb n 7) _ _ c.enter (
-    either P (eqb n 8) _ _ c.leave c.other)))))
+    either P (eqb n 8) _ _ c.leave c.other)))))))
 
 -- ---- Entering and leaving
 

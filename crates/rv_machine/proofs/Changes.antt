@@ -13,8 +13,8 @@ use Rattle.rv_code.specs.declared.instr.Instr.{Instr}
 use Rattle.rv_code.specs.declared.instr.Instr.TheVariants.{Lui, Auipc, Jal, Jalr, Beq, Bne, Blt, Bge, Bltu, Bgeu, Lb, Lh, Lw, Lbu, Lhu, Sb, Sh, Sw, Addi, Slti, Sltiu, Xori, Ori, Andi, Slli, Srli, Srai, Add, Sub, Sll, Slt, Sltu, Xor, Srl, Sra, Or, And, Mul, Mulh, Mulhsu, Mulhu, Div, Divu, Rem, Remu, Fence, Ecall, Ebreak}
 use Rattle.rv_machine.specs.Changes.{NoneChanges, IsMadeIn, AreOffTable}
 use Rattle.rv_machine.specs.Instruction.{Act, Goes, Traps, Asks, access_trap, unless_trap, stores, jumps, branches, address, even, effect, effect_of, event_of, event_if, instruction_at, core_step, core_events}
-use Rattle.rv_machine.specs.Live.{live_of}
-use Rattle.rv_machine.specs.Memory.{written_at}
+use Rattle.bb_watch.specs.Live.{live_of}
+use Rattle.size_table.specs.Memory.{written_at}
 use Rattle.rv_machine.specs.State.{Core, register_of, set_register, next, with_memory}
 use Rattle.rv_machine.proofs.Tables.{written_other}
 use Rattle.size_table.specs.Blocks.{Block}

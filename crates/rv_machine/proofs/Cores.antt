@@ -16,7 +16,7 @@ use Rattle.rv_code.specs.declared.instr.Instr.TheVariants.{Lui, Auipc, Jal, Jalr
 use Rattle.rv_code.specs.Laws.{ReadsOnly}
 use Rattle.rv_machine.specs.Formed.{IsWord, IsByte, IsCore}
 use Rattle.rv_machine.specs.Instruction.{Act, Goes, Traps, Asks, access_trap, unless_trap, loads, stores, jumps, links, branches, address, even, effect, effect_of, core_step}
-use Rattle.rv_machine.specs.Memory.{half_at, word_at, written_at}
+use Rattle.size_table.specs.Memory.{half_at, word_at, written_at}
 use Rattle.rv_machine.specs.State.{Core, register_of, set_register, next, gives, with_memory}
 use Rattle.rv_machine.proofs.Bounds as bounds
 use Rattle.rv_machine.proofs.Tables.{written_long, written_bytes}

@@ -14,21 +14,24 @@ use Rattle.rv_code.specs.declared.instr.Instr.TheVariants.{Lui, Jalr, Lw, Sb, Sw
 use Rattle.rv_image.specs.declared.image.Image.{Image}
 use Rattle.rv_image.specs.Rules.{IsImage}
 use Rattle.rv_machine.specs.declared.stop.Halt.TheVariants.{Exited, Trapped}
-use Rattle.rv_machine.specs.Environment.{World, Tell, Happens, events_of, with_machine, calls, exits}
+use Rattle.rv_machine.specs.Environment.{World, with_machine, calls, exits}
+use Rattle.bb_watch.specs.Told.{Tell, Happens, events_of}
 use Rattle.rv_machine.specs.Examples.{image_with, forty_two, moves_unowned, reads_unowned, writes_table, changes_table, returns_nowhere, breaks, Clause, OnMoves, OnAccesses, OnControl, OnTable, OnReturns, OnTraps, Holds, BreaksAlone, ClausesRefuse, UnsafeExamples}
 use Rattle.rv_machine.specs.Formed.{IsByte, IsWord}
 use Rattle.rv_machine.specs.Instruction.{Goes, Traps, Asks, effect, event_of}
-use Rattle.rv_machine.specs.Live.{global_blocks, live_of}
+use Rattle.bb_watch.specs.Live.{live_of}
+use Rattle.rv_machine.specs.Live.{global_blocks}
 use Rattle.rv_machine.specs.Machine.{step, steps, machine_after}
-use Rattle.rv_machine.specs.Memory.{Stand, word_at, written_at}
-use Rattle.rv_machine.specs.Safety.{IsSafe, IsSafeEnding, SafeRun, Each, IsMoveSafe, IsAccessSafe, IsControlSafe, LieIn, WasFreed, open_after, table_in}
+use Rattle.bb_watch.specs.Safety.{Each, IsMoveSafe, IsAccessSafe, IsControlSafe, LieIn, WasFreed, open_after}
+use Rattle.size_table.specs.Memory.{Stand, word_at, written_at}
+use Rattle.rv_machine.specs.Safety.{IsSafe, IsSafeEnding, SafeRun}
 use Rattle.rv_machine.specs.Start.{start, start_memory, start_registers, start_frames}
 use Rattle.rv_machine.specs.State.{Core, Frames, with_core, halted}
 use Rattle.rv_machine.proofs.Programs.{does_instr, tells_instr}
 use Rattle.rv_machine.proofs.Starts.{start_stands, start_table, start_whole}
 use Rattle.rv_machine.proofs.Steps.{step_acts, steps_stay}
 use Rattle.rv_machine.proofs.TableMemory.{LawsBelow, table_at, table_long}
-use Rattle.size_table.specs.Table.{IsTableOf}
+use Rattle.size_table.specs.Table.{IsTableOf, table_in}
 
 -- ---- One instruction
 
@@ -58,7 +61,7 @@ asked back w at = step_acts w Asks at.running (does_instr back w.machine.core Ec
 -- a machine with these frames, that has not ended
 abbrev pub standing_in : Frames → (pc : ℕ) → (registers memory input : List ℕ) → List Tell → World
 standing_in frames pc registers memory input told = record {
-  machine = record { core = record { pc = pc; registers = registers; memory = memory }; frames = frames; ending = None };
+  machine = record { core = record { pc = pc; registers = registers; memory = memory }; frames = frames; heap = []; ending = None };
   left = input;
   told = told;
 }
@@ -157,12 +160,14 @@ unfolding start
 quiet_safe below image w h initial q =
     let globals = global_blocks image in
     let none = sym q.told in record {
-      moves = subst (λ (l : List Tell). Each (IsMoveSafe 4) globals globals (events_of l)) none tt;
-      accesses = subst (λ (l : List Tell). Each (IsAccessSafe 4) globals globals (events_of l)) none tt;
-      control = subst (λ (l : List Tell). Each IsControlSafe globals globals (events_of l)) none tt;
-      table = subst (λ (l : List Tell). IsTableOf 4 (live_of globals (events_of l)) (table_in w.machine.core.memory)) none
-          (subst (λ (m : List ℕ). IsTableOf 4 globals (table_in m)) (sym q.memory) (start_table below image h initial));
-      returns = subst (λ (l : List Tell). IsSome (open_after [] (events_of l))) none refl;
+      contained = record {
+        moves = subst (λ (l : List Tell). Each (IsMoveSafe 4) globals globals (events_of l)) none tt;
+        accesses = subst (λ (l : List Tell). Each (IsAccessSafe 4) globals globals (events_of l)) none tt;
+        control = subst (λ (l : List Tell). Each IsControlSafe globals globals (events_of l)) none tt;
+        table = subst (λ (l : List Tell). IsTableOf 4 (live_of globals (events_of l)) (table_in w.machine.core.memory)) none
+            (subst (λ (m : List ℕ). IsTableOf 4 globals (table_in m)) (sym q.memory) (start_table below image h initial));
+        returns = subst (λ (l : List Tell). IsSome (open_after [] (events_of l))) none refl;
+      };
       traps = q.ending;
     }
 
@@ -389,10 +394,10 @@ clauses_refuse back below = record {
 
 pub unsafe_examples : ClausesRefuse → UnsafeExamples
 unsafe_examples refuse = record {
-  moves = λ input safe. refuse.moves.0 input (safe 1 (lit≤ tt)).moves;
-  accesses = λ input safe. refuse.accesses.0 input (safe 2 (lit≤ tt)).accesses;
-  control = λ input safe. refuse.control.0 input (safe 1 (lit≤ tt)).control;
-  table = λ input safe. refuse.table input (safe 2 (lit≤ tt)).table;
-  returns = λ input safe. refuse.returns.0 input (safe 1 (lit≤ tt)).returns;
+  moves = λ input safe. refuse.moves.0 input (safe 1 (lit≤ tt)).contained.moves;
+  accesses = λ input safe. refuse.accesses.0 input (safe 2 (lit≤ tt)).contained.accesses;
+  control = λ input safe. refuse.control.0 input (safe 1 (lit≤ tt)).contained.control;
+  table = λ input safe. refuse.table input (safe 2 (lit≤ tt)).contained.table;
+  returns = λ input safe. refuse.returns.0 input (safe 1 (lit≤ tt)).contained.returns;
   traps = λ input safe. refuse.traps.0 input (safe 1 (lit≤ tt)).traps;
 }

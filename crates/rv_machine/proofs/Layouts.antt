@@ -2,7 +2,7 @@
 use Rattle.std.proofs.Common.{◌≡◌, ℕ, zero, suc, ◌≤◌, List, [], ◌∷◌, subst, arith}
 use Rattle.std.specs.Prelude.{slice_get, Some}
 use Rattle.rv_image.specs.Rules.{Decline, AreFrames, total_size}
-use Rattle.rv_machine.specs.Blocks.{AreExponents}
+use Rattle.size_table.specs.Made.{AreExponents}
 
 exponents_then : (e : ℕ) (es : List ℕ) → 4 ≤ e → e ≤ 24 → AreExponents es → AreExponents (e ∷ es)
 exponents_then e es low high rest zero within = (low, high)

@@ -2,6 +2,7 @@ pub mod Steps
 pub mod Outside
 pub mod Calls
 pub mod Runs
+pub mod Pauses
 pub mod Tables
 pub mod Programs
 pub mod Layouts
@@ -13,10 +14,16 @@ pub mod BlockLists
 pub mod LiveLists
 pub mod CallChain
 pub mod Changes
+pub mod EventLists
+pub mod JumpsTold
+pub mod EventsTold
+pub mod RunTells
 pub mod BlockMemory
 pub mod TableMemory
 pub mod Starts
 pub mod Cases
+pub mod Answering
+pub mod Aligned
 pub mod Forms
 pub mod MemoryLaws
 pub mod MadeLaws
@@ -26,3 +33,6 @@ pub mod SafeRuns
 pub mod ExampleRuns
 pub mod UsedBlock
 pub mod UsedFrame
+pub mod SameBlocks
+pub mod EndedLists
+pub mod HeapLaws

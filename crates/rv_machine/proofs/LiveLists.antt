@@ -5,9 +5,10 @@ use Rattle.std.proofs.lemmas.Bool.{eq-eqb, ne_eqb}
 use Rattle.std.proofs.lemmas.List.{map-append, reverse-append}
 use Rattle.std.proofs.lemmas.Nat.{pow_pos}
 use Rattle.bb_watch.specs.declared.event.Event.{Event}
-use Rattle.rv_machine.specs.Environment.{Tell, Output, Happens, events_of, made_event, ended_event}
-use Rattle.rv_machine.specs.Live.{live_after, live_of, without}
-use Rattle.size_table.specs.Blocks.{Block, MissEachOther, MissesAll, AreDisjoint}
+use Rattle.rv_machine.specs.Environment.{made_event, ended_event}
+use Rattle.bb_watch.specs.Live.{live_after, live_of}
+use Rattle.bb_watch.specs.Told.{Tell, Output, Happens, events_of}
+use Rattle.size_table.specs.Blocks.{Block, MissEachOther, MissesAll, AreDisjoint, without}
 
 pub live_append : (live : List Block) (xs ys : List Event) → live_of live (xs ++ ys) ≡ live_of (live_of live xs) ys
 live_append live [] ys = refl

@@ -1,14 +1,16 @@
 -- The bytes of a block that was made are zero.
-use Rattle.std.proofs.Common.{◌≡◌, ℕ, ◌+◌, ◌%◌, ◌≤◌, List, [], ◌∷◌, ◌++◌, get_or, Some, refl, sym, ap, subst, ◌∙◌, inl, inr, arith, append-nil}
+use Rattle.std.proofs.Common.{◌≡◌, ℕ, ◌+◌, ◌%◌, ◌≤◌, List, [], ◌∷◌, ◌++◌, get_or, Option, Some, None, refl, sym, ap, subst, ◌∙◌, inl, inr, arith, append-nil}
 use Rattle.std.proofs.lemmas.List.{append_cancel_left}
+use Rattle.std.proofs.lemmas.List.Elements.{All-nil, All-cons}
 use Rattle.std.specs.Prelude.{map, slice_get}
 use Rattle.bb_watch.specs.declared.event.Event.{Event}
 use Rattle.rv_image.specs.declared.image.Image.{Image}
 use Rattle.rv_image.specs.Rules.{IsImage, total_size}
 use Rattle.rv_machine.specs.declared.frames.Entry.TheVariants.{NoFrame, TooDeep, NoRoom}
-use Rattle.rv_machine.specs.Blocks.{blocks_from}
+use Rattle.size_table.specs.Made.{blocks_from}
 use Rattle.rv_machine.specs.Changes.{IsMadeIn}
-use Rattle.rv_machine.specs.Environment.{World, Tell, Output, Happens, with_machine, telling, events_of, calls, gets, puts, kind_of, reports, enters, enter_events, leaving, leaves, leave_events, made_event, ended_event}
+use Rattle.rv_machine.specs.Environment.{World, with_machine, telling, calls, gets, puts, kind_of, reports, enters, enter_events, leaving, leaves, leave_events, made_event, ended_event, new_in, mallocs, malloc_events, frees, free_events, freed_blocks, freeing}
+use Rattle.bb_watch.specs.Told.{Tell, Output, Happens, events_of}
 use Rattle.rv_machine.specs.Formed.{IsFormed}
 use Rattle.rv_machine.specs.Frames.{Entering, entered_at, refused, stack_under}
 use Rattle.rv_machine.specs.Instruction.{core_events}
@@ -19,9 +21,10 @@ use Rattle.rv_machine.proofs.BlockLists.{LieBetween, from_between}
 use Rattle.rv_machine.proofs.BlockMemory.{all_made_zero}
 use Rattle.rv_machine.proofs.Cases.{by_step, by_call, by_entering}
 use Rattle.rv_machine.proofs.Changes.{step_keeps}
-use Rattle.rv_machine.proofs.Forms.{is_entered, entered_world, core_memory}
+use Rattle.rv_machine.proofs.Forms.{is_entered, is_new, entered_world, malloc_world, core_memory}
+use Rattle.rv_machine.proofs.HeapLaws.{HeapLaws}
 use Rattle.rv_machine.proofs.Tells.{gets_told, step_told}
-use Rattle.size_table.specs.Blocks.{Block}
+use Rattle.size_table.specs.Blocks.{Block, IsBlock}
 use Rattle.rv_machine.proofs.MemoryLaws.{events_more, reports_told}
 
 MadeZero : World → World → Type 0
@@ -76,25 +79,42 @@ enters_made image w h f =
 leaves_made : (w : World) → MadeZero w (telling leave_events leaves w)
 leaves_made w = none_made w (telling leave_events leaves w) (leave_events w.machine) refl (λ at m. ended_made (leaving w.machine).blocks at m)
 
-calls_made : (image : Image) (w : World) → IsImage image → IsFormed image w → MadeZero w (calls w)
-calls_made image w h f = by_call (MadeZero w) w (record {
+mallocs_made : HeapLaws → (image : Image) (w : World) → IsImage image → IsFormed image w → MadeZero w (telling malloc_events mallocs w)
+unfolding MadeZero
+mallocs_made laws image w h f = by (new_in w.machine) refl
+  where
+    by : (o : Option Block) → new_in w.machine ≡ o → MadeZero w (malloc_world w o)
+    by None e = none_made w (malloc_world w None) [] refl (λ at m. m)
+    by (Some b) e = λ more e2 at made.
+        let s = w.machine in
+        let n = is_new laws image w b h f e in
+        let its = subst (λ (l : List Event). IsMadeIn l at) (events_more w.told more (made_event b ∷ []) e2) made in
+        all_made_zero (b ∷ []) s.core.memory at (All-cons (IsBlock 4) b [] n.block (All-nil (IsBlock 4))) (core_memory s.core f.core) (made_high 16777216 33554432 (b ∷ []) at (omega arith) (n.within, tt) its) its
+
+frees_made : (w : World) → MadeZero w (telling free_events frees w)
+frees_made w = none_made w (telling free_events frees w) (free_events w.machine) refl (λ at m. ended_made (freed_blocks (freeing w.machine)) at m)
+
+calls_made : HeapLaws → (image : Image) (w : World) → IsImage image → IsFormed image w → MadeZero w (calls w)
+calls_made laws image w h f = by_call (MadeZero w) w (record {
   exit = quiet_made w _ refl;
   getchar = quiet_made w (gets w) (gets_told w.left w);
   putchar = puts_made w;
+  malloc = mallocs_made laws image w h f;
+  free = frees_made w;
   report = quiet_made w (with_machine reports w) (reports_told w (kind_of (register_of w.machine.core 10)));
   enter = enters_made image w h f;
   leave = leaves_made w;
   other = quiet_made w _ refl;
 })
 
-steps_made : (image : Image) (w : World) → IsImage image → IsFormed image w → MadeZero w (step w)
-steps_made image w h f = by_step (MadeZero w) w (record {
+steps_made : HeapLaws → (image : Image) (w : World) → IsImage image → IsFormed image w → MadeZero w (step w)
+steps_made laws image w h f = by_step (MadeZero w) w (record {
   ended = quiet_made w w refl;
   goes = λ core g. none_made w _ (core_events w.machine.core) refl (step_keeps w.machine.core core g).blocks.made;
   traps = λ kind. quiet_made w _ refl;
-  asks = λ e. calls_made image w h f;
+  asks = λ e. calls_made laws image w h f;
 })
 
-pub made_is_zero : (image : Image) (w : World) (at : ℕ) → IsImage image → IsFormed image w → IsMadeIn (events_of (tells_of w.machine)) at → get_or (step w).machine.core.memory at 0 ≡ 0
+pub made_is_zero : HeapLaws → (image : Image) (w : World) (at : ℕ) → IsImage image → IsFormed image w → IsMadeIn (events_of (tells_of w.machine)) at → get_or (step w).machine.core.memory at 0 ≡ 0
 unfolding MadeZero
-made_is_zero image w at h f made = steps_made image w h f (tells_of w.machine) (step_told w) at made
+made_is_zero laws image w at h f made = steps_made laws image w h f (tells_of w.machine) (step_told w) at made

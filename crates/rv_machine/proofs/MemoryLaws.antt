@@ -1,14 +1,16 @@
 -- A byte of the memory changes only where an event says so.
 use Rattle.std.proofs.Common.{◌≡◌, ℕ, List, [], ◌∷◌, ◌++◌, get_or, Option, Some, None, refl, sym, ap, subst, ◌∙◌}
 use Rattle.std.proofs.lemmas.List.{append_cancel_left}
+use Rattle.std.proofs.lemmas.List.Elements.{All-nil, All-cons}
 use Rattle.std.specs.Prelude.{map, reverse, slice_get}
 use Rattle.bb_words.specs.declared.kinds.ReportKind.{ReportKind}
 use Rattle.bb_watch.specs.declared.event.Event.{Event}
 use Rattle.rv_image.specs.declared.image.Image.{Image}
 use Rattle.rv_image.specs.Rules.{IsImage}
-use Rattle.rv_machine.specs.Blocks.{blocks_from}
+use Rattle.size_table.specs.Made.{blocks_from}
 use Rattle.rv_machine.specs.Changes.{NoneChanges}
-use Rattle.rv_machine.specs.Environment.{World, Tell, Happens, with_machine, telling, events_of, calls, gets, gets_from, kind_of, reports, reported_if, enters, enter_events, leaves, leave_events, made_event, ended_event}
+use Rattle.rv_machine.specs.Environment.{World, with_machine, telling, calls, gets, gets_from, kind_of, reports, reported_if, enters, enter_events, leaves, leave_events, made_event, ended_event, new_in, mallocs, malloc_events, Freeing, frees, free_events}
+use Rattle.bb_watch.specs.Told.{Tell, Happens, events_of}
 use Rattle.rv_machine.specs.Formed.{IsFormed}
 use Rattle.rv_machine.specs.Frames.{Entering, Leaving, last_entered, stack_under}
 use Rattle.rv_machine.specs.Instruction.{Goes, core_step, core_events}
@@ -18,9 +20,11 @@ use Rattle.rv_machine.specs.State.{Core, register_of, with_core}
 use Rattle.rv_machine.proofs.BlockMemory.{all_made_other, all_ended_other}
 use Rattle.rv_machine.proofs.Cases.{by_step, by_call, by_entering, by_leaving}
 use Rattle.rv_machine.proofs.Changes.{step_keeps}
-use Rattle.rv_machine.proofs.Forms.{is_entered, is_left, entered_world, left_world, core_memory}
+use Rattle.rv_machine.proofs.Forms.{is_entered, is_left, is_new, is_freed, by_freeing, entered_world, left_world, malloc_world, free_world, core_memory}
 use Rattle.rv_machine.proofs.LiveLists.{events_happen}
+use Rattle.rv_machine.proofs.HeapLaws.{HeapLaws}
 use Rattle.rv_machine.proofs.Tells.{step_told}
+use Rattle.size_table.specs.Blocks.{Block, IsBlock}
 
 -- the events of what was told beside what was told before
 pub events_more : (told more : List Tell) (events : List Event) → told ++ map Happens events ≡ told ++ more → events_of more ≡ events
@@ -75,31 +79,55 @@ leaves_told image w h f =
           all_ended_other bs s.core.memory at facts.placed.blocks (core_memory s.core f.core) none;
     })
 
+mallocs_told : HeapLaws → (image : Image) (w : World) → IsImage image → IsFormed image w → AsTold w (telling malloc_events mallocs w)
+unfolding AsTold
+mallocs_told laws image w h f = by (new_in w.machine) refl
+  where
+    by : (o : Option Block) → new_in w.machine ≡ o → AsTold w (malloc_world w o)
+    by None e = λ more e2 at n. refl
+    by (Some b) e = λ more e2 at none.
+        let s = w.machine in
+        let n = is_new laws image w b h f e in
+        all_made_other (b ∷ []) s.core.memory at (All-cons (IsBlock 4) b [] n.block (All-nil (IsBlock 4))) (core_memory s.core f.core) (subst (λ (l : List Event). NoneChanges l at) (events_more w.told more (made_event b ∷ []) e2) none)
+
+frees_told : (image : Image) (w : World) → IsImage image → IsFormed image w → AsTold w (telling free_events frees w)
+unfolding AsTold
+frees_told image w h f = by_freeing (λ (o : Freeing). AsTold w (free_world w o)) w.machine (record {
+  nothing = λ more e at n. refl;
+  no_block = λ more e at n. refl;
+  ends = λ b among more e at none.
+      let s = w.machine in
+      let n = is_freed image w b h f among in
+      all_ended_other (b ∷ []) s.core.memory at (All-cons (IsBlock 4) b [] n.block (All-nil (IsBlock 4))) (core_memory s.core f.core) (subst (λ (l : List Event). NoneChanges l at) (events_more w.told more (ended_event b ∷ []) e) none);
+})
+
 goes_told : (w : World) (core : Core) → core_step w.machine.core ≡ Goes core → AsTold w (telling (λ s. core_events s.core) (with_core core) w)
 unfolding AsTold
 goes_told w core g more e at n =
     let keeps = step_keeps w.machine.core core g in
     keeps.told at (subst (λ (l : List Event). NoneChanges l at) (events_more w.told more (core_events w.machine.core) e) n)
 
-calls_told : (image : Image) (w : World) → IsImage image → IsFormed image w → AsTold w (calls w)
-calls_told image w h f = by_call (AsTold w) w (record {
+calls_told : HeapLaws → (image : Image) (w : World) → IsImage image → IsFormed image w → AsTold w (calls w)
+calls_told laws image w h f = by_call (AsTold w) w (record {
   exit = unchanged w _ refl;
   getchar = unchanged w (gets w) (gets_memory w w.left);
   putchar = unchanged w _ refl;
+  malloc = mallocs_told laws image w h f;
+  free = frees_told image w h f;
   report = unchanged w (with_machine reports w) (reports_memory w (kind_of (register_of w.machine.core 10)));
   enter = enters_told image w h f;
   leave = leaves_told image w h f;
   other = unchanged w _ refl;
 })
 
-steps_as_told : (image : Image) (w : World) → IsImage image → IsFormed image w → AsTold w (step w)
-steps_as_told image w h f = by_step (AsTold w) w (record {
+steps_as_told : HeapLaws → (image : Image) (w : World) → IsImage image → IsFormed image w → AsTold w (step w)
+steps_as_told laws image w h f = by_step (AsTold w) w (record {
   ended = unchanged w w refl;
   goes = goes_told w;
   traps = λ kind. unchanged w _ refl;
-  asks = λ e. calls_told image w h f;
+  asks = λ e. calls_told laws image w h f;
 })
 
-pub only_told_change : (image : Image) (w : World) (at : ℕ) → IsImage image → IsFormed image w → NoneChanges (events_of (tells_of w.machine)) at → get_or (step w).machine.core.memory at 0 ≡ get_or w.machine.core.memory at 0
+pub only_told_change : HeapLaws → (image : Image) (w : World) (at : ℕ) → IsImage image → IsFormed image w → NoneChanges (events_of (tells_of w.machine)) at → get_or (step w).machine.core.memory at 0 ≡ get_or w.machine.core.memory at 0
 unfolding AsTold
-only_told_change image w at h f n = steps_as_told image w h f (tells_of w.machine) (step_told w) at n
+only_told_change laws image w at h f n = steps_as_told laws image w h f (tells_of w.machine) (step_told w) at n

@@ -8,14 +8,15 @@ use Rattle.bb_outside.specs.declared.SinkFailed.{SinkFailed}
 use Rattle.bb_outside.specs.Streams.{Takes, Ends, TakesSome, Puts}
 use Rattle.rv_machine.specs.State.{State, gives, with_core, register_of}
 use Rattle.bb_watch.specs.declared.event.Event.{Event}
-use Rattle.rv_machine.specs.Environment.{World, Tell, Output, Happens, output_of, gets, puts}
+use Rattle.rv_machine.specs.Environment.{World, gets, puts}
+use Rattle.bb_watch.specs.Told.{Tell, Output, Happens, output_of}
 use Rattle.rv_machine.specs.Runs.{Ran, Shown}
 
 -- what is told, with nothing more
-told_nil : (s : State) (left : List ℕ) (told : List Tell) → ◌≡◌ {A = World} (record { machine = s; left = left; told = told }) (record { machine = s; left = left; told = told ++ [] })
+pub told_nil : (s : State) (left : List ℕ) (told : List Tell) → ◌≡◌ {A = World} (record { machine = s; left = left; told = told }) (record { machine = s; left = left; told = told ++ [] })
 told_nil s left told = ap (λ (t : List Tell). record { machine = s; left = left; told = t }) (sym (append-nil told))
 
-written_nil : (written : Option (List ℕ)) (bytes : List ℕ) → written ≡ Some bytes → written ≡ Some (bytes ++ [])
+pub written_nil : (written : Option (List ℕ)) (bytes : List ℕ) → written ≡ Some bytes → written ≡ Some (bytes ++ [])
 written_nil written bytes e = e ∙ ap Some (sym (append-nil bytes))
 
 -- a run between states that are written in another way
@@ -23,7 +24,7 @@ pub ran_at : (f : World → World) (s t s' t' : State) (o o' : Shown) → s ≡ 
 ran_at f s t s' t' o o' e e' p = subst (λ (x : State). Ran f x o t' o') e (subst (λ (x : State). Ran f s o x o') e' p)
 
 -- the same function where the run stands, written in another way
-pub ran_same : (f g : World → World) (s : State) (o : Shown) (s' : State) (o' : Shown) (p : Ran f s o s' o') → ((rest : List ℕ) (told : List Tell) → (o'.is_over ≡ true → rest ≡ []) → g (record { machine = s; left = p.taken ++ rest; told = told }) ≡ f (record { machine = s; left = p.taken ++ rest; told = told })) → Ran g s o s' o'
+unfoldable pub ran_same : (f g : World → World) (s : State) (o : Shown) (s' : State) (o' : Shown) (p : Ran f s o s' o') → ((rest : List ℕ) (told : List Tell) → (o'.is_over ≡ true → rest ≡ []) → g (record { machine = s; left = p.taken ++ rest; told = told }) ≡ f (record { machine = s; left = p.taken ++ rest; told = told })) → Ran g s o s' o'
 ran_same f g s o s' o' p h = record {
   taken = p.taken;
   tells = p.tells;
@@ -34,7 +35,7 @@ ran_same f g s o s' o' p h = record {
 }
 
 -- nothing but the machine changes
-pub ran_quiet : (f : World → World) (s s' : State) (o : Shown) → ((left : List ℕ) (told : List Tell) → f (record { machine = s; left = left; told = told }) ≡ record { machine = s'; left = left; told = told }) → Ran f s o s' o
+unfoldable pub ran_quiet : (f : World → World) (s s' : State) (o : Shown) → ((left : List ℕ) (told : List Tell) → f (record { machine = s; left = left; told = told }) ≡ record { machine = s'; left = left; told = told }) → Ran f s o s' o
 ran_quiet f s s' o h = record {
   taken = [];
   tells = [];

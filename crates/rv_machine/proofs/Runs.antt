@@ -4,22 +4,23 @@ use Rattle.std.specs.Prelude.{IsSome}
 use Rattle.rv_machine.specs.declared.stop.Halt.{Halt}
 use Rattle.rv_machine.specs.declared.stop.Halt.TheVariants as halt
 use Rattle.rv_machine.specs.State.{State}
-use Rattle.rv_machine.specs.Environment.{World, Tell, Output, Happens, output_of}
+use Rattle.rv_machine.specs.Environment.{World}
+use Rattle.bb_watch.specs.Told.{Tell, Output, Happens, output_of}
 use Rattle.rv_machine.specs.Machine.{step, steps}
 use Rattle.rv_machine.specs.Runs.{Ran, Shown, Stops, FaultCause, fault_of, stop_of}
-use Rattle.rv_machine.proofs.Steps.{steps_none, steps_more, steps_stay}
+use Rattle.rv_machine.proofs.Steps.{steps_none, steps_more, steps_add, steps_stay}
 use Rattle.rv_machine.proofs.Outside.{ran_quiet, ran_same}
 
-output_append : (a b : List Tell) → output_of (a ++ b) ≡ output_of a ++ output_of b
+pub output_append : (a b : List Tell) → output_of (a ++ b) ≡ output_of a ++ output_of b
 output_append [] b = refl
 output_append (Output x ∷ a) b = ap (λ (l : List ℕ). x ∷ l) (output_append a b)
 output_append (Happens event ∷ a) b = output_append a b
 
-pub ran_none : (s : State) (o : Shown) → Ran (steps 0) s o s o
+unfoldable pub ran_none : (s : State) (o : Shown) → Ran (steps 0) s o s o
 ran_none s o = ran_quiet (steps 0) s s o (λ left told. steps_none (record { machine = s; left = left; told = told }))
 
 -- one run and then another
-pub ran_then : (f g : World → World) (s : State) (o : Shown) (s1 : State) (o1 : Shown) (s2 : State) (o2 : Shown) → Ran f s o s1 o1 → Ran g s1 o1 s2 o2 → Ran (λ w. g (f w)) s o s2 o2
+unfoldable pub ran_then : (f g : World → World) (s : State) (o : Shown) (s1 : State) (o1 : Shown) (s2 : State) (o2 : Shown) → Ran f s o s1 o1 → Ran g s1 o1 s2 o2 → Ran (λ w. g (f w)) s o s2 o2
 ran_then f g s o s1 o1 s2 o2 p q = record {
   taken = p.taken ++ q.taken;
   tells = p.tells ++ q.tells;
@@ -40,10 +41,16 @@ ran_then f g s o s1 o1 s2 o2 p q = record {
 }
 
 -- k instructions and one more
-pub ran_more : (k : ℕ) (s : State) (o : Shown) (s1 : State) (o1 : Shown) (s2 : State) (o2 : Shown) → Ran (steps k) s o s1 o1 → Ran step s1 o1 s2 o2 → Ran (steps (k + 1)) s o s2 o2
+unfoldable pub ran_more : (k : ℕ) (s : State) (o : Shown) (s1 : State) (o1 : Shown) (s2 : State) (o2 : Shown) → Ran (steps k) s o s1 o1 → Ran step s1 o1 s2 o2 → Ran (steps (k + 1)) s o s2 o2
 ran_more k s o s1 o1 s2 o2 p q =
     let both = ran_then (steps k) step s o s1 o1 s2 o2 p q in
     ran_same (λ w. step (steps k w)) (steps (k + 1)) s o s2 o2 both (λ rest told e. steps_more k (record { machine = s; left = both.taken ++ rest; told = told }))
+
+-- k instructions and d more
+pub ran_on : (k d : ℕ) (s : State) (o : Shown) (s1 : State) (o1 : Shown) (s2 : State) (o2 : Shown) → Ran (steps k) s o s1 o1 → Ran (steps d) s1 o1 s2 o2 → Ran (steps (k + d)) s o s2 o2
+ran_on k d s o s1 o1 s2 o2 p q =
+    let both = ran_then (steps k) (steps d) s o s1 o1 s2 o2 p q in
+    ran_same (λ w. steps d (steps k w)) (steps (k + d)) s o s2 o2 both (λ rest told e. steps_add d k (record { machine = s; left = both.taken ++ rest; told = told }))
 
 -- k instructions and a fault
 pub ran_still : (k : ℕ) (s : State) (o : Shown) (s1 : State) (o1 : Shown) (s2 : State) (o2 : Shown) → Ran (steps k) s o s1 o1 → Ran (λ w. w) s1 o1 s2 o2 → Ran (steps k) s o s2 o2

@@ -1,5 +1,5 @@
 -- The machine of an image before its first instruction.
-use Rattle.std.proofs.Common.{◌≡◌, ℕ, zero, suc, ◌+◌, ◌-◌, ◌*◌, ◌/◌, ◌%◌, ◌^◌, ◌<◌, ◌≤◌, List, [], ◌∷◌, ◌++◌, length, get_or, set, refl, sym, ap, subst, ◌∙◌, inl, inr, arith, lit<, lit≤, append-nil, append_assoc, get_or-set_same, get_or-set_other, length-set}
+use Rattle.std.proofs.Common.{◌≡◌, ℕ, zero, suc, ◌+◌, ◌-◌, ◌*◌, ◌/◌, ◌%◌, ◌^◌, ◌<◌, ◌≤◌, ◌⊎◌, List, [], ◌∷◌, ◌++◌, length, get_or, set, refl, sym, ap, subst, ◌∙◌, inl, inr, arith, lit<, lit≤, append-nil, append_assoc, get_or-set_same, get_or-set_other, length-set}
 use Rattle.std.specs.Prelude.{All, replicate}
 use Rattle.std.specs.Int.{to_le_bytes, w32}
 use Rattle.std.proofs.lemmas.Bool.{cases_lt, cases_eq}
@@ -8,20 +8,20 @@ use Rattle.std.proofs.lemmas.List.Elements.{All-nil, All-from_recursion, recursi
 use Rattle.std.proofs.lemmas.Nat.{pow-add}
 use Rattle.rv_image.specs.declared.image.Image.{Image}
 use Rattle.rv_image.specs.Rules.{IsImage, Decline}
-use Rattle.rv_machine.specs.Blocks.{tabled, blocks_from}
-use Rattle.rv_machine.specs.Formed.{IsWord, IsByte, IsCore, IsFormed, live_in}
+use Rattle.size_table.specs.Made.{tabled, blocks_from}
+use Rattle.rv_machine.specs.Formed.{IsWord, IsByte, IsCore, IsFormed, live_in, IsInHeap}
+use Rattle.rv_machine.specs.Laws.{MemoryStarts}
 use Rattle.rv_machine.specs.Live.{global_blocks}
-use Rattle.rv_machine.specs.Memory.{word_at, written_at, bytes_of_words, table_bytes, Stand}
-use Rattle.rv_machine.specs.Safety.{table_in}
+use Rattle.size_table.specs.Memory.{word_at, written_at, bytes_of_words, table_bytes, Stand}
 use Rattle.rv_machine.specs.Start.{start, start_memory, start_registers}
 use Rattle.rv_machine.specs.State.{memory_size}
 use Rattle.rv_machine.proofs.BlockLists.{from_aligned, from_disjoint}
 use Rattle.rv_machine.proofs.BlockMemory.{IsMemory, size_is, tabled_memory}
 use Rattle.rv_machine.proofs.Programs.{words_stand}
 use Rattle.rv_machine.proofs.TableMemory.{LawsBelow, added, tabled_marks, first_disjoint, table_at, table_long, table_stays}
-use Rattle.rv_machine.proofs.Tables.{written_append, written_long, written_bytes, written_other}
-use Rattle.size_table.specs.Blocks.{Block, block_at, IsBlock, AreDisjoint}
-use Rattle.size_table.specs.Table.{IsTableOf, filled}
+use Rattle.rv_machine.proofs.Tables.{written_append, written_long, written_bytes, written_other, table_length}
+use Rattle.size_table.specs.Blocks.{Block, block_at, IsBlock, AreDisjoint, count_in}
+use Rattle.size_table.specs.Table.{IsTableOf, filled, table_in}
 
 -- ---- Bytes that are written
 
@@ -179,7 +179,8 @@ start_formed image input h b i = record {
   layouts = refl;
   calls = refl;
   few = omega arith;
-  live = sym (append-nil (global_blocks image));
+  heap = record { each = All-nil (IsBlock 4); within = All-nil IsInHeap; disjoint = tt };
+  live = λ b. ap (count_in b) (sym (append-nil (global_blocks image)));
 }
 
 pub start_byte : (image : Image) (at : ℕ) → get_or (start image).core.memory at 0 ≡ get_or (start_memory image) at 0
@@ -215,3 +216,59 @@ start_stands image h w =
     written_other (with_table image) 10485760 image.initial i (inl (omega (arith, l, fits)))
     ∙ written_other (with_text image) 2752512 (table_bytes image.globals) i (inl (omega (arith, l, fits))))
     written
+
+-- ---- All bytes
+
+-- of bytes that are written, each stands at its index
+written_same : (m : List ℕ) (at : ℕ) (bs : List ℕ) (i : ℕ) → i < length bs → at + length bs ≤ length m → get_or (written_at m at bs) (at + i) 0 ≡ get_or bs i 0
+written_same m at [] i l h = absurd (omega (arith, l))
+written_same m at (b ∷ bs) zero l h =
+    let e : at + 0 ≡ at = omega arith in
+    ap (λ (k : ℕ). get_or (written_at (set m at b) (at + 1) bs) k 0) e
+    ∙ written_other (set m at b) (at + 1) bs at (inl (omega arith))
+    ∙ get_or-set_same m at b 0 (omega (arith, h))
+written_same m at (b ∷ bs) (suc i) l h =
+    let e : at + suc i ≡ at + 1 + i = omega arith in
+    ap (λ (k : ℕ). get_or (written_at (set m at b) (at + 1) bs) k 0) e
+    ∙ written_same (set m at b) (at + 1) bs i (omega (arith, l)) (omega (arith, h, length-set m at b))
+
+-- the bytes of the global blocks' entries lie in the size table
+entries_end : (image : Image) → IsImage image → 2752512 + length (table_bytes image.globals) ≤ 4194304
+entries_end image h =
+    let long = table_length 20 image.globals h.globals_decline in
+    let fits = h.globals_fit in
+    omega (arith, long, fits)
+
+start_zero : (image : Image) → IsImage image → (at : ℕ) → (at < 4096) ⊎ (4096 + 4 * length image.text ≤ at) → (at < 2097152) ⊎ (4194304 ≤ at) → (at < 10485760) ⊎ (10485760 + length image.initial ≤ at) → get_or (start_memory image) at 0 ≡ 0
+unfolding start_memory with_table with_text zeros
+start_zero image h at text table initial =
+    let long = words_long image.text in
+    let end = entries_end image h in
+    written_other (with_table image) 10485760 image.initial at initial
+    ∙ written_other (with_text image) 2752512 (table_bytes image.globals) at (by_table end table)
+    ∙ written_other (replicate memory_size 0) 4096 (bytes_of_words image.text) at (by_text long text)
+    ∙ zero_at memory_size at
+  where
+    by_table : 2752512 + length (table_bytes image.globals) ≤ 4194304 → (at < 2097152) ⊎ (4194304 ≤ at) → (at < 2752512) ⊎ (2752512 + length (table_bytes image.globals) ≤ at)
+    by_table end (inl low) = inl (omega (arith, low))
+    by_table end (inr high) = inr (omega (arith, end, high))
+
+    by_text : length (bytes_of_words image.text) ≡ 4 * length image.text → (at < 4096) ⊎ (4096 + 4 * length image.text ≤ at) → (at < 4096) ⊎ (4096 + length (bytes_of_words image.text) ≤ at)
+    by_text long (inl low) = inl low
+    by_text long (inr high) = inr (omega (arith, long, high))
+
+start_initial : (image : Image) → IsImage image → (i : ℕ) → i < length image.initial → get_or (start_memory image) (10485760 + i) 0 ≡ get_or image.initial i 0
+unfolding start_memory with_table with_text zeros
+start_initial image h i l =
+    let size = (table_memory image h).size in
+    let fits = h.initial_fits in
+    let most = h.globals_fit in
+    written_same (with_table image) 10485760 image.initial i l (omega (arith, size, fits, most))
+
+pub memory_starts : LawsBelow → MemoryStarts
+memory_starts below image h bytes words = record {
+  text = start_stands image h words;
+  table = start_table below image h bytes;
+  initial = start_initial image h;
+  zero = start_zero image h;
+}

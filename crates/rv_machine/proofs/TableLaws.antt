@@ -1,31 +1,32 @@
 -- The size table follows the blocks.
-use Rattle.std.proofs.Common.{◌≡◌, ℕ, zero, suc, ◌+◌, ◌-◌, ◌%◌, List, [], ◌∷◌, ◌++◌, length, take, refl, sym, ap, subst, ◌∙◌, arith, append-nil}
+use Rattle.std.proofs.Common.{◌≡◌, ℕ, zero, suc, ◌+◌, ◌%◌, List, [], ◌∷◌, ◌++◌, Option, Some, None, refl, sym, ap, subst, ◌∙◌, arith, append-nil}
 use Rattle.std.specs.Prelude.{map, reverse, slice_get}
 use Rattle.bb_watch.specs.declared.event.Event.{Event}
 use Rattle.rv_image.specs.declared.image.Image.{Image}
 use Rattle.rv_image.specs.Rules.{IsImage, total_size}
 use Rattle.rv_machine.specs.declared.frames.Entry.TheVariants.{NoFrame, TooDeep, NoRoom}
-use Rattle.rv_machine.specs.Blocks.{blocks_from, all_made, all_ended}
+use Rattle.size_table.specs.Made.{blocks_from, all_made, all_ended, made, ended}
 use Rattle.rv_machine.specs.Changes.{AreOffTable}
-use Rattle.rv_machine.specs.Environment.{World, Tell, Output, Happens, with_machine, telling, events_of, calls, gets, puts, kind_of, reports, enters, enter_events, leaves, leave_events, made_event, ended_event}
+use Rattle.rv_machine.specs.Environment.{World, with_machine, telling, calls, gets, puts, kind_of, reports, enters, enter_events, leaves, leave_events, made_event, ended_event, new_in, mallocs, malloc_events, Freeing, Nothing, NoBlock, frees, free_events}
+use Rattle.bb_watch.specs.Told.{Tell, Output, Happens, events_of}
 use Rattle.rv_machine.specs.Formed.{IsFormed, live_in}
 use Rattle.rv_machine.specs.Frames.{Entering, Leaving, last_entered, not_left, refused, stack_under}
 use Rattle.rv_machine.specs.Instruction.{Goes, core_step, core_events}
 use Rattle.rv_machine.specs.Laws.{tells_of}
-use Rattle.rv_machine.specs.Live.{global_blocks, call_blocks, live_of}
+use Rattle.bb_watch.specs.Live.{live_of}
+use Rattle.rv_machine.specs.Live.{global_blocks}
 use Rattle.rv_machine.specs.Machine.{step, steps}
-use Rattle.rv_machine.specs.Safety.{table_in}
 use Rattle.rv_machine.specs.State.{Core, register_of, with_core}
 use Rattle.rv_machine.proofs.BlockLists.{from_between}
 use Rattle.rv_machine.proofs.Cases.{by_step, by_call, by_entering, by_leaving}
 use Rattle.rv_machine.proofs.Changes.{step_keeps}
 use Rattle.rv_machine.proofs.Cores.{step_core}
-use Rattle.rv_machine.proofs.Forms.{is_entered, is_left, entered_world, left_world, core_memory, steps_formed}
-use Rattle.rv_machine.proofs.LiveLists.{live_append, events_append, events_happen, live_made, live_ended}
-use Rattle.rv_machine.proofs.TableMemory.{LawsBelow, all_made_table, all_ended_table, table_stays}
+use Rattle.rv_machine.proofs.Forms.{is_entered, is_left, is_new, is_freed, by_freeing, entered_world, left_world, malloc_world, free_world, core_memory, steps_formed}
+use Rattle.rv_machine.proofs.LiveLists.{live_append, events_append, events_happen, live_made}
+use Rattle.rv_machine.proofs.TableMemory.{LawsBelow, made_table, ended_table, all_made_table, all_ended_table, table_stays}
 use Rattle.rv_machine.proofs.Tells.{gets_told, step_told}
 use Rattle.size_table.specs.Blocks.{Block}
-use Rattle.size_table.specs.Table.{IsTableOf}
+use Rattle.size_table.specs.Table.{IsTableOf, table_in}
 use Rattle.rv_machine.proofs.MemoryLaws.{events_more, gets_memory, reports_memory, reports_told}
 
 HasTable : Image → World → Type 0
@@ -88,20 +89,44 @@ leaves_table below image w h f =
     by_leaving (λ (l : Leaving). KeepsTable image w (left_world w l)) (last_entered s.frames) (slice_get s.frames.layouts k) k s.frames s.core.memory (record {
       stays = table_unchanged image w (left_world w (not_left s.frames s.core.memory)) refl (nothing w.told);
       leaves = λ call es last layout frame more e off t.
-          let others = global_blocks image ++ call_blocks image.frames (take (length s.frames.entered - 1) s.frames.entered) in
           let bs = blocks_from s.frames.stack es in
           let facts = is_left image w k call es h f last layout frame in
-          let live = events_then image w (map ended_event (reverse bs)) ∙ ap (λ (l : List Block). live_of l (map ended_event (reverse bs))) facts.blocks ∙ live_ended others bs facts.disjoint in
-          let before = subst (λ (l : List Block). IsTableOf 4 l (table_in s.core.memory)) facts.blocks t in
-          subst (λ (l : List Block). IsTableOf 4 l (table_in (all_ended bs s.core.memory))) (sym live)
-          (all_ended_table below bs others s.core.memory facts.placed.blocks (core_memory s.core f.core) facts.disjoint before);
+          subst (λ (l : List Block). IsTableOf 4 l (table_in (all_ended bs s.core.memory))) (sym (events_then image w (map ended_event (reverse bs))))
+          (all_ended_table below bs (live_in image w) s.core.memory facts.placed.blocks (core_memory s.core f.core) facts.disjoint facts.among t);
     })
+
+mallocs_table : (below : LawsBelow) (image : Image) (w : World) → IsImage image → IsFormed image w → KeepsTable image w (telling malloc_events mallocs w)
+unfolding KeepsTable HasTable
+mallocs_table below image w h f = by (new_in w.machine) refl
+  where
+    by : (o : Option Block) → new_in w.machine ≡ o → KeepsTable image w (malloc_world w o)
+    by None e = table_unchanged image w (malloc_world w None) refl (nothing w.told)
+    by (Some b) e = λ more e2 off t.
+        let s = w.machine in
+        let n = is_new below.heap image w b h f e in
+        let low = n.within in
+        subst (λ (l : List Block). IsTableOf 4 l (table_in (made b s.core.memory))) (sym (events_then image w (made_event b ∷ [])))
+        (made_table below (live_in image w) b s.core.memory n.block (omega (arith, low.0)) (core_memory s.core f.core) n.laid_out.disjoint t)
+
+frees_table : (below : LawsBelow) (image : Image) (w : World) → IsImage image → IsFormed image w → KeepsTable image w (telling free_events frees w)
+unfolding KeepsTable HasTable
+frees_table below image w h f = by_freeing (λ (o : Freeing). KeepsTable image w (free_world w o)) w.machine (record {
+  nothing = table_unchanged image w (free_world w Nothing) refl (nothing w.told);
+  no_block = table_unchanged image w (free_world w NoBlock) refl (nothing w.told);
+  ends = λ b among more e off t.
+      let s = w.machine in
+      let n = is_freed image w b h f among in
+      subst (λ (l : List Block). IsTableOf 4 l (table_in (ended b s.core.memory))) (sym (events_then image w (ended_event b ∷ [])))
+      (ended_table below (live_in image w) b s.core.memory n.block (core_memory s.core f.core) n.disjoint n.among t);
+})
 
 calls_table : (below : LawsBelow) (image : Image) (w : World) → IsImage image → IsFormed image w → KeepsTable image w (calls w)
 calls_table below image w h f = by_call (KeepsTable image w) w (record {
   exit = table_unchanged image w _ refl refl;
   getchar = table_unchanged image w (gets w) (gets_memory w w.left) (ap events_of (gets_told w.left w));
   putchar = table_unchanged image w (puts w) refl (puts_told w);
+  malloc = mallocs_table below image w h f;
+  free = frees_table below image w h f;
   report = table_unchanged image w (with_machine reports w) (reports_memory w (kind_of (register_of w.machine.core 10))) (ap events_of (reports_told w (kind_of (register_of w.machine.core 10))));
   enter = enters_table below image w h f;
   leave = leaves_table below image w h f;
@@ -137,4 +162,4 @@ steps_table (suc n) below image w h f t off =
     let parts = subst AreOffTable all off in
     let before = off_first (events_of v.told) (events_of (tells_of v.machine)) parts in
     let last = off_last (events_of v.told) (events_of (tells_of v.machine)) parts in
-    table_follows below image v h (steps_formed below.reads n image w h f) last (steps_table n below image w h f t before)
+    table_follows below image v h (steps_formed below.reads below.heap n image w h f) last (steps_table n below image w h f t before)

@@ -1,15 +1,19 @@
 -- The size table in memory where blocks are made and end. The laws of the layers below come as arguments.
 use Rattle.std.proofs.Common.{◌≡◌, ℕ, ◌+◌, ◌/◌, ◌^◌, ◌<◌, ◌≤◌, List, [], ◌∷◌, ◌++◌, length, get_or, take, drop, sym, subst, ◌∙◌, inl, inr, arith, append-nil, append_assoc}
-use Rattle.std.specs.Prelude.{All}
+use Rattle.std.specs.Prelude.{All, map, reverse}
 use Rattle.std.proofs.lemmas.List.{places, same_lists, get_or-take, get_or-drop}
 use Rattle.std.proofs.lemmas.List.Elements.{All-head, All-tail}
 use Rattle.rv_code.specs.Laws.{ReadsOnly}
-use Rattle.rv_machine.specs.Blocks.{tabled, made, ended, all_made, all_ended}
-use Rattle.rv_machine.specs.Safety.{table_in}
+use Rattle.size_table.specs.Made.{tabled, made, ended, all_made, all_ended}
 use Rattle.rv_machine.proofs.BlockLists.{LieBetween}
 use Rattle.rv_machine.proofs.BlockMemory.{IsMemory, filled_long, made_memory, all_ended_memory}
-use Rattle.size_table.specs.Blocks.{Block, IsBlock, MissEachOther, MissesAll, AreDisjoint}
-use Rattle.size_table.specs.Table.{IsTableOf, Marks, BlockIsMarked, MarkingAdds, MarkingRemoves, filled}
+use Rattle.size_table.specs.Blocks.{Block, IsBlock, MissEachOther, MissesAll, AreDisjoint, without, count_in}
+use Rattle.rv_machine.specs.Environment.{ended_event}
+use Rattle.bb_watch.specs.Live.{live_of}
+use Rattle.rv_machine.proofs.EndedLists.{AreAmong, all_ended_blocks, last_ends}
+use Rattle.rv_machine.proofs.HeapLaws.{HeapLaws}
+use Rattle.rv_machine.proofs.SameBlocks.{removed, one_self}
+use Rattle.size_table.specs.Table.{IsTableOf, Marks, BlockIsMarked, MarkingAdds, MarkingRemoves, filled, table_in}
 
 -- the laws of the layers below
 pub record LawsBelow : Type 0 where
@@ -17,6 +21,7 @@ pub record LawsBelow : Type 0 where
   pub marked : BlockIsMarked
   pub adds : MarkingAdds
   pub removes : MarkingRemoves
+  pub heap : HeapLaws
 
 -- a part of a list
 part_long : (m : List ℕ) (n k : ℕ) → n + k ≤ length m → length (take k (drop n m)) ≡ k
@@ -102,13 +107,15 @@ added below live b old new marks d t =
     let misses = subst (MissesAll b) (sym (append-nil live)) (last_misses live b [] d) in
     below.adds 4 b old new marks live [] misses (subst (λ (bs : List Block). IsTableOf 4 bs old) (sym (append-nil live)) t)
 
-made_table : (below : LawsBelow) (live : List Block) (b : Block) (m : List ℕ) → IsBlock 4 b → 4194304 ≤ b.base → IsMemory m → AreDisjoint (live ++ b ∷ []) → IsTableOf 4 live (table_in m) → IsTableOf 4 (live ++ b ∷ []) (table_in (made b m))
+pub made_table : (below : LawsBelow) (live : List Block) (b : Block) (m : List ℕ) → IsBlock 4 b → 4194304 ≤ b.base → IsMemory m → AreDisjoint (live ++ b ∷ []) → IsTableOf 4 live (table_in m) → IsTableOf 4 (live ++ b ∷ []) (table_in (made b m))
 made_table below live b m h high i d t = added below live b (table_in m) (table_in (made b m)) (made_marks below b m h high i.size) d t
 
-ended_table : (below : LawsBelow) (live : List Block) (b : Block) (m : List ℕ) → IsBlock 4 b → IsMemory m → AreDisjoint (live ++ b ∷ []) → IsTableOf 4 (live ++ b ∷ []) (table_in m) → IsTableOf 4 live (table_in (ended b m))
-ended_table below live b m h i d t =
-    subst (λ (bs : List Block). IsTableOf 4 bs (table_in (ended b m))) (append-nil live)
-    (below.removes 4 b (table_in m) (table_in (ended b m)) (ended_marks below b m h i.size) live [] d t)
+-- a block ends, wherever it stands among those that live
+pub ended_table : (below : LawsBelow) (live : List Block) (b : Block) (m : List ℕ) → IsBlock 4 b → IsMemory m → AreDisjoint live → 1 ≤ count_in b live → IsTableOf 4 live (table_in m) → IsTableOf 4 (without b.base live) (table_in (ended b m))
+ended_table below live b m h i d l t =
+    let r = removed b live d l in
+    subst (λ (bs : List Block). IsTableOf 4 bs (table_in (ended b m))) (sym r.leaves)
+    (below.removes 4 b (table_in m) (table_in (ended b m)) (ended_marks below b m h i.size) r.before r.after (subst AreDisjoint r.is d) (subst (λ (bs : List Block). IsTableOf 4 bs (table_in m)) r.is t))
 
 -- all of the blocks lie above the size table
 pub all_made_table : (below : LawsBelow) (bs live : List Block) (low high : ℕ) (m : List ℕ) → 4194304 ≤ low → LieBetween low high bs → All (IsBlock 4) bs → IsMemory m → AreDisjoint (live ++ bs) → IsTableOf 4 live (table_in m) → IsTableOf 4 (live ++ bs) (table_in (all_made bs m))
@@ -121,11 +128,13 @@ all_made_table below (b ∷ bs) live low high m above p h i d t =
     subst (λ (l : List Block). IsTableOf 4 l (table_in (all_made bs (made b m)))) push
     (all_made_table below bs (live ++ b ∷ []) low high (made b m) above p.1 (All-tail (IsBlock 4) b bs h) (made_memory b m block i) apart table)
 
-pub all_ended_table : (below : LawsBelow) (bs live : List Block) (m : List ℕ) → All (IsBlock 4) bs → IsMemory m → AreDisjoint (live ++ bs) → IsTableOf 4 (live ++ bs) (table_in m) → IsTableOf 4 live (table_in (all_ended bs m))
-all_ended_table below [] live m h i d t = subst (λ (l : List Block). IsTableOf 4 l (table_in m)) (append-nil live) t
-all_ended_table below (b ∷ bs) live m h i d t =
-    let push = append_assoc live (b ∷ []) bs in
-    let apart = subst AreDisjoint (sym push) d in
+pub all_ended_table : (below : LawsBelow) (bs live : List Block) (m : List ℕ) → All (IsBlock 4) bs → IsMemory m → AreDisjoint live → AreAmong bs live → IsTableOf 4 live (table_in m) → IsTableOf 4 (live_of live (map ended_event (reverse bs))) (table_in (all_ended bs m))
+all_ended_table below [] live m h i d a t = t
+all_ended_table below (b ∷ bs) live m h i d a t =
     let fit = All-tail (IsBlock 4) b bs h in
-    let others = all_ended_table below bs (live ++ b ∷ []) m fit i apart (subst (λ (l : List Block). IsTableOf 4 l (table_in m)) (sym push) t) in
-    ended_table below live b (all_ended bs m) (All-head (IsBlock 4) b bs h) (all_ended_memory bs m fit i) (first_disjoint (live ++ b ∷ []) bs apart) others
+    let fewer : AreAmong bs live = λ c. let e = a c in omega (arith, e) in
+    let others = all_ended_table below bs live m fit i d fewer t in
+    let left = all_ended_blocks bs live d fewer in
+    let there : 1 ≤ count_in b (live_of live (map ended_event (reverse bs))) = (let e = a b in let n = left.count b in let s = one_self b in omega (arith, e, n, s)) in
+    subst (λ (l : List Block). IsTableOf 4 l (table_in (all_ended (b ∷ bs) m))) (sym (last_ends b bs live))
+    (ended_table below (live_of live (map ended_event (reverse bs))) b (all_ended bs m) (All-head (IsBlock 4) b bs h) (all_ended_memory bs m fit i) left.disjoint there others)

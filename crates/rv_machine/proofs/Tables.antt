@@ -8,7 +8,7 @@ use Rattle.std.proofs.lemmas.Nat.{pow-add}
 use Rattle.std.proofs.Math.Pow.{pow-lt}
 use Rattle.rv_image.specs.Rules.{Decline, total_size}
 use Rattle.rv_machine.specs.Formed.{IsByte}
-use Rattle.rv_machine.specs.Memory.{written_at, table_bytes, IsExponent}
+use Rattle.size_table.specs.Memory.{written_at, table_bytes, IsExponent}
 
 pub written_append : (memory : List ℕ) (at : ℕ) (a b : List ℕ) → written_at memory at (a ++ b) ≡ written_at (written_at memory at a) (at + length a) b
 written_append memory at [] b = let e : at ≡ at + 0 = omega arith in ap (λ k. written_at memory k b) e

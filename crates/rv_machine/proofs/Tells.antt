@@ -5,7 +5,8 @@ use Rattle.std.proofs.lemmas.Bool.Decides.{nat_tests}
 use Rattle.rv_machine.specs.declared.stop.Halt.{Halt}
 use Rattle.rv_machine.specs.State.{State, register_of}
 use Rattle.rv_machine.specs.Instruction.{Act, Goes, Traps, Asks, core_step}
-use Rattle.rv_machine.specs.Environment.{Tell, Output, Happens, World, enter_events, leave_events, calls, gets_from}
+use Rattle.rv_machine.specs.Environment.{World, enter_events, leave_events, calls, gets_from, malloc_events, free_events}
+use Rattle.bb_watch.specs.Told.{Tell, Output, Happens}
 use Rattle.rv_machine.specs.Laws.{call_tells, act_tells, tells_of, tells_unless_ended}
 use Rattle.rv_machine.specs.Machine.{step, steps, acted, unless_ended}
 
@@ -29,6 +30,12 @@ tells_2 s h = rw h refl
 tells_3 : (s : State) → register_of s.core 17 ≡ 3 → call_tells s ≡ Output (register_of s.core 10 % 256) ∷ []
 tells_3 s h = rw h refl
 
+tells_4 : (s : State) → register_of s.core 17 ≡ 4 → call_tells s ≡ map Happens (malloc_events s)
+tells_4 s h = rw h refl
+
+tells_5 : (s : State) → register_of s.core 17 ≡ 5 → call_tells s ≡ map Happens (free_events s)
+tells_5 s h = rw h refl
+
 tells_6 : (s : State) → register_of s.core 17 ≡ 6 → call_tells s ≡ []
 tells_6 s h = rw h refl
 
@@ -38,8 +45,8 @@ tells_7 s h = rw h refl
 tells_8 : (s : State) → register_of s.core 17 ≡ 8 → call_tells s ≡ map Happens (leave_events s)
 tells_8 s h = rw h refl
 
-tells_none : (s : State) → register_of s.core 17 ≢ 3 → register_of s.core 17 ≢ 7 → register_of s.core 17 ≢ 8 → call_tells s ≡ []
-tells_none s h i j = grind (arith, nat_tests)
+tells_none : (s : State) → register_of s.core 17 ≢ 3 → register_of s.core 17 ≢ 4 → register_of s.core 17 ≢ 5 → register_of s.core 17 ≢ 7 → register_of s.core 17 ≢ 8 → call_tells s ≡ []
+tells_none s h k l i j = grind (arith, nat_tests)
 
 equal_by : (n k : ℕ) → eqb n k ≡ true → n ≡ k
 equal_by n k e = grind (arith, nat_tests)
@@ -63,10 +70,12 @@ calls_told w =
     pick (eqb n 1) _ _ l (λ e. still w.told (call_tells s) (tells_1 s (equal_by n 1 e))) (λ e1.
     pick (eqb n 2) _ _ l (λ e. gets_told w.left w ∙ still w.told (call_tells s) (tells_2 s (equal_by n 2 e))) (λ e2.
     pick (eqb n 3) _ _ l (λ e. then w.told (call_tells s) _ (tells_3 s (equal_by n 3 e))) (λ e3.
+    pick (eqb n 4) _ _ l (λ e. then w.told (call_tells s) _ (tells_4 s (equal_by n 4 e))) (λ e4.
+    pick (eqb n 5) _ _ l (λ e. then w.told (call_tells s) _ (tells_5 s (equal_by n 5 e))) (λ e5.
     pick (eqb n 6) _ _ l (λ e. still w.told (call_tells s) (tells_6 s (equal_by n 6 e))) (λ e6.
     pick (eqb n 7) _ _ l (λ e. then w.told (call_tells s) _ (tells_7 s (equal_by n 7 e))) (λ e7.
     pick (eqb n 8) _ _ l (λ e. then w.told (call_tells s) _ (tells_8 s (equal_by n 8 e))) (λ e8.
-    still w.told (call_tells s) (tells_none s (unequal_by n 3 e3) (unequal_by n 7 e7) (unequal_by n 8 e8))))))))
+    still w.told (call_tells s) (tells_none s (unequal_by n 3 e3) (unequal_by n 4 e4) (unequal_by n 5 e5) (unequal_by n 7 e7) (unequal_by n 8 e8))))))))))
 
 act_told : (act : Act) (w : World) → (acted act w).told ≡ w.told ++ act_tells act w.machine
 act_told (Goes core) w = refl

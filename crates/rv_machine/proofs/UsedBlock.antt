@@ -8,13 +8,15 @@ use Rattle.bb_watch.specs.declared.event.Event.TheVariants.{Move, Access, Call, 
 use Rattle.rv_code.specs.Laws.{ReadsBack}
 use Rattle.rv_code.specs.declared.instr.Instr.TheVariants.{Lui, Jal, Jalr, Lbu, Sw, Addi, Add}
 use Rattle.rv_image.specs.Rules.{IsImage}
-use Rattle.rv_machine.specs.Environment.{World, Tell, Happens, events_of, with_machine, calls, exits}
+use Rattle.rv_machine.specs.Environment.{World, with_machine, calls, exits}
+use Rattle.bb_watch.specs.Told.{Tell, Happens, events_of}
 use Rattle.rv_machine.specs.Examples.{uses_block, UsesBlock}
 use Rattle.rv_machine.specs.Formed.{IsByte, IsWord}
 use Rattle.rv_machine.specs.Live.{global_blocks}
 use Rattle.rv_machine.specs.Machine.{step, steps, machine_after}
-use Rattle.rv_machine.specs.Memory.{Stand, written_at}
-use Rattle.rv_machine.specs.Safety.{IsSafe, IsSafeEnding, SafeRun, Each, IsMoveSafe, IsAccessSafe, IsControlSafe, open_after}
+use Rattle.size_table.specs.Memory.{Stand, written_at}
+use Rattle.bb_watch.specs.Safety.{Each, IsMoveSafe, IsAccessSafe, IsControlSafe, open_after}
+use Rattle.rv_machine.specs.Safety.{IsSafe, IsSafeEnding, SafeRun}
 use Rattle.rv_machine.specs.Start.{start, start_frames, start_memory, start_registers}
 use Rattle.rv_machine.proofs.Tables.{written_other}
 use Rattle.rv_machine.proofs.ExampleRuns.{asked, goes, standing}
@@ -190,11 +192,13 @@ end_safe back below input bytes =
     let events = sym used.events in
     let accesses_end = subst (Each (IsAccessSafe 4) block block) events accesses_safe in
     let control_end = subst (Each IsControlSafe block block) events control_safe in record {
-      moves = subst (Each (IsMoveSafe 4) block block) events moves_safe;
-      accesses = accesses_end;
-      control = control_end;
-      table = table_is_kept below uses_block input 10 is_image (All-nil IsByte) bytes accesses_end control_end;
-      returns = subst (λ (l : List Event). IsSome (open_after [] l)) events refl;
+      contained = record {
+        moves = subst (Each (IsMoveSafe 4) block block) events moves_safe;
+        accesses = accesses_end;
+        control = control_end;
+        table = table_is_kept below uses_block input 10 is_image (All-nil IsByte) bytes accesses_end control_end;
+        returns = subst (λ (l : List Event). IsSome (open_after [] l)) events refl;
+      };
       traps = subst IsSafeEnding (sym used.ending) tt;
     }
 

@@ -1,33 +1,22 @@
 -- The environment calls. ECALL reads the number in x17 and arguments in x10 and x11, and answers in x10.
-use Rattle.std.specs.Prelude.{ℕ, ◌%◌, ◌==◌, if◌then◌else◌, Option, Some, None, List, [], ◌∷◌, ◌++◌, map, slice_get}
+use Rattle.std.specs.Prelude.{ℕ, nat_lt, ◌%◌, ◌==◌, if◌then◌else◌, Option, Some, None, List, [], ◌∷◌, ◌++◌, map, slice_get}
 use Rattle.bb_words.specs.declared.kinds.ReportKind.{ReportKind}
 use Rattle.bb_words.specs.declared.kinds.ReportKind.TheVariants.{Bounds, Pointer, DivZero, BadFree, Depth, Stack}
 use Rattle.bb_words.specs.declared.kinds.TrapKind.TheVariants.{Call}
 use Rattle.bb_watch.specs.declared.event.Event.{Event}
 use Rattle.bb_watch.specs.declared.event.Event.TheVariants.{Made, Ended}
-use Rattle.size_table.specs.Blocks.{Block}
+use Rattle.bb_watch.specs.Told.{Tell, Output, Happens}
+use Rattle.size_table.specs.declared.calls.TheConstants.{EXIT, GETCHAR, PUTCHAR, MALLOC, FREE, REPORT, ENTER, LEAVE}
+use Rattle.size_table.specs.declared.memory_map.TheConstants.{MOST_BYTES}
+use Rattle.size_table.specs.Blocks.{Block, block_at, without}
+use Rattle.buddy_heap.specs.Places.{place_of, with_block, block_from}
+use Rattle.size_table.specs.Made.{made, ended}
+use Rattle.size_table.specs.Pads.{exponent_of}
 use Rattle.rv_machine.specs.declared.frames.Entry.{Entry}
 use Rattle.rv_machine.specs.declared.frames.Entry.TheVariants.{NoFrame, TooDeep, NoRoom, Enters}
 use Rattle.rv_machine.specs.declared.stop.Halt.TheVariants.{Exited, Reported, Trapped}
 use Rattle.rv_machine.specs.Frames.{Entering, Leaving, enter, leave, last_entered}
 use Rattle.rv_machine.specs.State.{State, register_of, next, gives, with_memory, halted, with_core}
-
--- what a run tells the outside, one thing after another: the bytes of its output, and events
-pub data Tell : Type 0 where
-  Output : (byte : ℕ) → Tell
-  Happens : (event : Event) → Tell
-
--- the bytes of the output
-abbrev pub output_of : List Tell → List ℕ
-output_of [] = []
-output_of (Output byte ∷ told) = byte ∷ output_of told
-output_of (Happens event ∷ told) = output_of told
-
--- the events
-abbrev pub events_of : List Tell → List Event
-events_of [] = []
-events_of (Output byte ∷ told) = events_of told
-events_of (Happens event ∷ told) = event ∷ events_of told
 
 -- a machine with the rest of its input and with what it has told
 pub record World : Type 0 where
@@ -120,13 +109,71 @@ ended_event block = Ended block.base block.exponent
 abbrev pub leave_events : State → List Event
 leave_events s = map ended_event (leaving s).blocks
 
+-- malloc: x10 is a size, and becomes the base of a new block for it in the heap, or 0 where it is above 16 MiB or there
+-- is no place
+abbrev pub block_of : ℕ → Option ℕ → Option Block
+block_of exponent None = None
+block_of exponent (Some base) = Some (block_at base exponent)
+
+unfoldable pub new_block : ℕ → List Block → Option Block
+new_block size heap = if nat_lt MOST_BYTES size then None else block_of (exponent_of 4 size) (place_of heap (exponent_of 4 size))
+
+abbrev pub new_in : State → Option Block
+new_in s = new_block (register_of s.core 10) s.heap
+
+abbrev pub mallocs_by : Option Block → State → State
+mallocs_by None s = with_core (gives 10 0 s.core) s
+mallocs_by (Some b) s = record s { heap = with_block b s.heap; core = gives 10 b.base (with_memory (made b s.core.memory) s.core) }
+
+abbrev pub mallocs : State → State
+mallocs s = mallocs_by (new_in s) s
+
+abbrev pub blocks_if : Option Block → List Block
+blocks_if None = []
+blocks_if (Some b) = b ∷ []
+
+abbrev pub malloc_events : State → List Event
+malloc_events s = map made_event (blocks_if (new_in s))
+
+-- what comes of a free: nothing, a report, or the end of a block
+pub data Freeing : Type 0 where
+  Nothing : Freeing
+  NoBlock : Freeing
+  Ends : (block : Block) → Freeing
+
+abbrev pub freeing_if : Option Block → Freeing
+freeing_if None = NoBlock
+freeing_if (Some b) = Ends b
+
+-- free: the heap's block that begins at x10 ends; 0 does nothing, and where none begins that is reported
+abbrev pub freeing : State → Freeing
+freeing s = if register_of s.core 10 == 0 then Nothing else freeing_if (block_from (register_of s.core 10) s.heap)
+
+abbrev pub frees_by : Freeing → State → State
+frees_by Nothing s = with_core (next s.core) s
+frees_by NoBlock s = reported BadFree s
+frees_by (Ends b) s = record s { heap = without b.base s.heap; core = next (with_memory (ended b s.core.memory) s.core) }
+
+abbrev pub frees : State → State
+frees s = frees_by (freeing s) s
+
+abbrev pub freed_blocks : Freeing → List Block
+freed_blocks Nothing = []
+freed_blocks NoBlock = []
+freed_blocks (Ends b) = b ∷ []
+
+abbrev pub free_events : State → List Event
+free_events s = map ended_event (freed_blocks (freeing s))
+
 -- the call whose number is in x17; any other number is a trap
 unfoldable pub calls : World → World
 calls w =
-    if register_of w.machine.core 17 == 1 then with_machine exits w
-    else if register_of w.machine.core 17 == 2 then gets w
-    else if register_of w.machine.core 17 == 3 then puts w
-    else if register_of w.machine.core 17 == 6 then with_machine reports w
-    else if register_of w.machine.core 17 == 7 then telling enter_events enters w
-    else if register_of w.machine.core 17 == 8 then telling leave_events leaves w
+    if register_of w.machine.core 17 == EXIT then with_machine exits w
+    else if register_of w.machine.core 17 == GETCHAR then gets w
+    else if register_of w.machine.core 17 == PUTCHAR then puts w
+    else if register_of w.machine.core 17 == MALLOC then telling malloc_events mallocs w
+    else if register_of w.machine.core 17 == FREE then telling free_events frees w
+    else if register_of w.machine.core 17 == REPORT then with_machine reports w
+    else if register_of w.machine.core 17 == ENTER then telling enter_events enters w
+    else if register_of w.machine.core 17 == LEAVE then telling leave_events leaves w
     else with_machine (halted (Trapped Call)) w

@@ -3,12 +3,15 @@ use Rattle.std.specs.Prelude.{◌≡◌, ◌≢◌, ℕ, true, false, List, [], 
 use Rattle.bb_watch.specs.declared.event.Event.TheVariants.{Move, Access, Call, Return, Made, Ended}
 use Rattle.rv_image.specs.declared.image.Image.{Image}
 use Rattle.rv_machine.specs.declared.stop.Halt.TheVariants.{Exited}
-use Rattle.rv_machine.specs.Environment.{World, events_of}
+use Rattle.rv_machine.specs.Environment.{World}
+use Rattle.bb_watch.specs.Told.{events_of}
 use Rattle.rv_machine.specs.Formed.{IsByte}
-use Rattle.rv_machine.specs.Live.{global_blocks, live_of}
+use Rattle.bb_watch.specs.Live.{live_of}
+use Rattle.rv_machine.specs.Live.{global_blocks}
+use Rattle.bb_watch.specs.Safety.{Each, IsMoveSafe, IsAccessSafe, IsControlSafe, open_after}
 use Rattle.rv_machine.specs.Machine.{machine_after}
-use Rattle.rv_machine.specs.Safety.{Each, IsMoveSafe, IsAccessSafe, IsControlSafe, IsSafeEnding, SafeRun, open_after, table_in}
-use Rattle.size_table.specs.Table.{IsTableOf}
+use Rattle.rv_machine.specs.Safety.{IsSafeEnding, SafeRun}
+use Rattle.size_table.specs.Table.{IsTableOf, table_in}
 
 -- ---- Images
 

@@ -1,11 +1,12 @@
 -- Frames that are entered and left.
 use Rattle.std.specs.Prelude.{◌≡◌, ◌==◌, ℕ, ◌-◌, ◌*◌, ◌/◌, ◌^◌, ◌≤◌, List, [], ◌∷◌, ◌++◌, reverse, Option, Some, None, length, take, nat_lt, nat_le, if◌then◌else◌, slice_get}
+use Rattle.size_table.specs.declared.memory_map.TheConstants.{STACK_START, MOST_CALLS}
 use Rattle.size_table.specs.Blocks.{Block}
 use Rattle.rv_image.specs.Rules.{total_size}
 use Rattle.rv_machine.specs.declared.frames.Entered.{Entered}
 use Rattle.rv_machine.specs.declared.frames.Entry.{Entry}
 use Rattle.rv_machine.specs.declared.frames.Entry.TheVariants.{NoFrame, TooDeep, NoRoom, Enters}
-use Rattle.rv_machine.specs.Blocks.{all_made, all_ended, blocks_from}
+use Rattle.size_table.specs.Made.{all_made, all_ended, blocks_from}
 use Rattle.rv_machine.specs.State.{Core, Frames}
 
 -- the exponent of a frame's alignment: that of its largest block, which is the first, or of a slot
@@ -36,12 +37,12 @@ entered_at base k es frames memory = record {
   blocks = blocks_from base es;
 }
 
--- Frame k is entered, if there is one. At most 4,096 calls are live, and the data stack begins at 0xC00000.
+-- Frame k is entered, if there is one. There are at most so many calls, and the data stack goes down to its start.
 unfoldable pub enter : Option (List ℕ) → ℕ → Frames → List ℕ → Entering
 enter None k frames memory = refused NoFrame frames memory
 enter (Some es) k frames memory =
-    if nat_le 4096 (length frames.entered) then refused TooDeep frames memory
-    else if nat_lt (stack_under frames.stack es) 12582912 then refused NoRoom frames memory
+    if nat_le MOST_CALLS (length frames.entered) then refused TooDeep frames memory
+    else if nat_lt (stack_under frames.stack es) STACK_START then refused NoRoom frames memory
     else entered_at (stack_under frames.stack es) k es frames memory
 
 -- a frame that is not entered changes nothing
@@ -88,7 +89,7 @@ pub record IsCall (layouts : List (List ℕ)) (top base : ℕ) (call : Entered) 
   pub layout : slice_get layouts call.frame ≡ Some exponents
   pub back : call.back ≡ top
   pub under : base ≡ stack_under top exponents
-  pub room : 12582912 ≤ base
+  pub room : STACK_START ≤ base
 
 -- calls were entered one after another, the first when the stack number was `top`, and the last led to `stack`
 abbrev pub AreCalls : (layouts : List (List ℕ)) → (top : ℕ) → List Entered → (stack : ℕ) → Type 0

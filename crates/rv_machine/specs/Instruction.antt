@@ -1,6 +1,6 @@
 -- What an instruction does to the registers, the program counter and the memory (RISC-V unprivileged manual, chapters
 -- RV32I and M).
-use Rattle.std.specs.Prelude.{◌≡◌, ◌==◌, ℕ, ◌+◌, ◌*◌, ◌/◌, ◌%◌, ◌||◌, Bool, true, false, not, nat_eq, nat_lt, nat_le, int_lt, bit_and, bit_or, bit_xor, slice_index, if◌then◌else◌, List, [], ◌∷◌, Option, Some, None}
+use Rattle.std.specs.Prelude.{◌≡◌, ◌==◌, ℕ, ◌+◌, ◌*◌, ◌/◌, ◌%◌, ◌^◌, ◌||◌, Bool, true, false, not, nat_eq, nat_lt, nat_le, int_lt, bit_and, bit_or, bit_xor, slice_index, if◌then◌else◌, List, [], ◌∷◌, Option, Some, None}
 use Rattle.std.specs.Int.{to_le_bytes, w16, w32}
 use Rattle.bb_words.specs.Numbers.{signed, sum, difference, product, signed_high_product, mixed_high_product, unsigned_high_product, signed_quotient, unsigned_quotient, signed_remainder, unsigned_remainder, left_shift, right_shift, signed_right_shift, signed_below, unsigned_below}
 use Rattle.bb_words.specs.declared.kinds.TrapKind.{TrapKind}
@@ -13,7 +13,8 @@ use Rattle.rv_code.specs.declared.instr.Instr.{Instr}
 use Rattle.rv_code.specs.declared.instr.Instr.TheVariants.{Lui, Auipc, Jal, Jalr, Beq, Bne, Blt, Bge, Bltu, Bgeu, Lb, Lh, Lw, Lbu, Lhu, Sb, Sh, Sw, Addi, Slti, Sltiu, Xori, Ori, Andi, Slli, Srli, Srai, Add, Sub, Sll, Slt, Sltu, Xor, Srl, Sra, Or, And, Mul, Mulh, Mulhsu, Mulhu, Div, Divu, Rem, Remu, Fence, Ecall, Ebreak}
 use Rattle.rv_machine.specs.declared.stop.Effect.{Effect}
 use Rattle.rv_machine.specs.declared.stop.Effect.TheVariants.{Went, Trapped, Asked}
-use Rattle.rv_machine.specs.Memory.{half_at, word_at, written_at}
+use Rattle.size_table.specs.declared.memory_map.TheConstants.{TEXT_START, TABLE_START, MEMORY_END}
+use Rattle.size_table.specs.Memory.{half_at, word_at, written_at}
 use Rattle.rv_machine.specs.State.{Core, register_of, set_register, next, gives, with_memory}
 
 -- what an instruction leads to: a core, a trap, or a question to the environment
@@ -27,10 +28,10 @@ pub data Act : Type 0 where
 -- the trap of an access to so many bytes, if there is one: the first of these that holds
 abbrev pub access_trap : (at size : ℕ) → Option TrapKind
 access_trap at size =
-    if nat_lt at 4096 then Some Null
-    else if nat_le 2147483648 at then Some Marked
-    else if nat_le 33554432 at then Some Unmapped
-    else if nat_lt at 2097152 then Some Text
+    if nat_lt at TEXT_START then Some Null
+    else if nat_le (2 ^ 31) at then Some Marked
+    else if nat_le MEMORY_END at then Some Unmapped
+    else if nat_lt at TABLE_START then Some Text
     else if at % size == 0 then None
     else Some Misaligned
 
@@ -131,7 +132,7 @@ instruction_at c = instruction_of (word_at c.memory c.pc)
 
 -- the next instruction: it is fetched from the text's region, decoded and executed
 unfoldable pub core_step : Core → Act
-core_step c = if nat_lt c.pc 4096 || nat_le 2097152 c.pc then Traps Fetch else effect_of (instruction_at c) c
+core_step c = if nat_lt c.pc TEXT_START || nat_le TABLE_START c.pc then Traps Fetch else effect_of (instruction_at c) c
 
 -- ---- What an instruction tells
 

@@ -1,7 +1,5 @@
 pub mod State
-pub mod Memory
 pub mod Instruction
-pub mod Blocks
 pub mod Frames
 pub mod Environment
 pub mod Machine
@@ -12,5 +10,6 @@ pub mod Safety
 pub mod Seen
 pub mod Formed
 pub mod Changes
+pub mod Events
 pub mod Laws
 pub mod Examples

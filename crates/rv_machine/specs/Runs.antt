@@ -9,9 +9,15 @@ use Rattle.rv_machine.specs.declared.stop.Halt.{Halt}
 use Rattle.rv_machine.specs.declared.stop.Halt.TheVariants as halt
 use Rattle.rv_machine.specs.declared.stop.Stop.{Stop}
 use Rattle.rv_machine.specs.declared.stop.Stop.TheVariants as stop
-use Rattle.rv_machine.specs.State.{State}
-use Rattle.rv_machine.specs.Environment.{World, Tell, output_of}
+use Rattle.rv_machine.specs.State.{State, Core, Frames}
+use Rattle.rv_machine.specs.declared.stop.Effect.{Effect}
+use Rattle.rv_machine.specs.declared.stop.Effect.TheVariants as effect
+use Rattle.rv_machine.specs.Instruction.{Traps, Asks, core_step}
+use Rattle.rv_machine.specs.Environment.{World}
+use Rattle.bb_watch.specs.Told.{Tell, output_of}
 use Rattle.rv_machine.specs.Machine.{steps, IsBeforeCall}
+use Rattle.size_table.specs.declared.memory_map.TheConstants.{TABLE_START}
+use Rattle.size_table.specs.Blocks.{Block}
 
 -- what a source and a sink show at one moment
 pub record Shown : Type 0 where
@@ -43,6 +49,22 @@ Stepped None f s o s' o' = Ran f s o s' o'
 Stepped (Some fault.Read) f s o s' o' = Ran (λ w. w) s o s' o' × IsBeforeCall 2 s'
 Stepped (Some fault.Write) f s o s' o' = Ran (λ w. w) s o s' o' × IsBeforeCall 3 s'
 
+-- so many instructions were executed, or after them an object of the outside failed and the environment call is still to come
+abbrev pub Advanced : Option Fault → ℕ → State → Shown → State → Shown → Type 0
+Advanced None k s o s' o' = Ran (steps k) s o s' o'
+Advanced (Some fault.Read) k s o s' o' = Ran (steps k) s o s' o' × IsBeforeCall 2 s'
+Advanced (Some fault.Write) k s o s' o' = Ran (steps k) s o s' o' × IsBeforeCall 3 s'
+
+-- a machine that has not ended
+abbrev pub running : Core → Frames → List Block → State
+running core frames heap = record { core = core; frames = frames; heap = heap; ending = None }
+
+-- Why a core that may do n instructions comes back after k: all are done, or the next is trapped, or asks.
+abbrev pub Paused : Effect → (n k : ℕ) → Core → Type 0
+Paused effect.Went n k core = k ≡ n
+Paused (effect.Trapped kind) n k core = (k < n) × (core_step core ≡ Traps kind)
+Paused effect.Asked n k core = (k < n) × (core_step core ≡ Asks) × (core.pc < TABLE_START)
+
 -- Why a run of at most n instructions came back. At a fault it stands after fewer, before the call that failed.
 abbrev pub Stops : Stop → ℕ → State → Shown → State → Shown → Type 0
 Stops (stop.Exited status) n s o s' o' = Ran (steps n) s o s' o' × (s'.ending ≡ Some (halt.Exited status))
@@ -58,6 +80,11 @@ stop_of None = stop.OutOfSteps
 stop_of (Some (halt.Exited status)) = stop.Exited status
 stop_of (Some (halt.Reported kind line)) = stop.Reported kind line
 stop_of (Some (halt.Trapped kind)) = stop.Trapped kind
+
+-- how a run comes back at a fault
+abbrev pub stop_at : Fault → Stop
+stop_at fault.Read = stop.ReadFault
+stop_at fault.Write = stop.WriteFault
 
 -- the counts of failures of the input and of the output never fall, and one rose at a fault
 abbrev pub FaultCause : Option Fault → (input input' output output' : ℕ) → Type 0

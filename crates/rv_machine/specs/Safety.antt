@@ -1,77 +1,17 @@
--- When a run is safe: bounds of pointers and accesses, the size table, calls and returns, and how it may end.
-use Rattle.std.specs.Prelude.{◌≡◌, ◌≢◌, ◌==◌, ◌⊎◌, ℕ, ◌+◌, ◌-◌, ◌/◌, ◌^◌, ◌<◌, ◌≤◌, false, List, [], ◌∷◌, Option, Some, None, IsSome, take, drop, if◌then◌else◌}
+-- When a run is safe: its events are, its size table is that of the live blocks, and it ends as it may.
+use Rattle.std.specs.Prelude.{ℕ, ◌≤◌, List, [], Option, Some, IsSome}
 use Rattle.bb_words.specs.declared.kinds.TrapKind.TheVariants.{Null, Marked, Misaligned}
-use Rattle.bb_watch.specs.declared.event.Event.{Event}
-use Rattle.bb_watch.specs.declared.event.Event.TheVariants.{Move, Access, Call, Return}
+use Rattle.bb_watch.specs.Told.{events_of}
+use Rattle.bb_watch.specs.Live.{live_of}
+use Rattle.bb_watch.specs.Safety.{Each, IsMoveSafe, IsAccessSafe, IsControlSafe, open_after}
 use Rattle.rv_image.specs.declared.image.Image.{Image}
 use Rattle.rv_machine.specs.declared.stop.Halt.{Halt}
 use Rattle.rv_machine.specs.declared.stop.Halt.TheVariants.{Trapped}
-use Rattle.rv_machine.specs.Environment.{World, events_of}
-use Rattle.rv_machine.specs.Live.{global_blocks, live_after, ever_after, live_of, holder, owner, unmarked}
+use Rattle.rv_machine.specs.Environment.{World}
+use Rattle.rv_machine.specs.Live.{global_blocks}
 use Rattle.rv_machine.specs.Machine.{machine_after}
-use Rattle.size_table.specs.Blocks.{Block, end_of}
-use Rattle.size_table.specs.Table.{IsTableOf, table_size}
-
--- ---- Moves
-
--- an address in the block
-abbrev pub IsInside : Block → ℕ → Type 0
-IsInside b word = (word < 2 ^ 31) × (b.base ≤ word) × (word < end_of b)
-
--- a marked address at most half a slot below the block, or less than half a slot past its end
-abbrev pub IsNear : ℕ → Block → ℕ → Type 0
-IsNear g b word =
-    (2 ^ 31 ≤ word)
-    × (((unmarked word < b.base) × (b.base ≤ unmarked word + 2 ^ (g - 1)))
-    ⊎ ((end_of b ≤ unmarked word) × (unmarked word < end_of b + 2 ^ (g - 1))))
-
--- a checked move of a word leads into the live block that owns it, or near it
-abbrev pub IsMoveSafe : ℕ → (live ever : List Block) → Event → Type 0
-IsMoveSafe g live ever (Move pc from to) = (b : Block) × (owner g from live ≡ Some b) × (IsInside b to ⊎ IsNear g b to)
-IsMoveSafe g live ever event = Unit {0}
-
--- ---- Accesses
-
--- all bytes lie in one of the blocks
-abbrev pub LieIn : (at size : ℕ) → List Block → Type 0
-LieIn at size [] = ⊥
-LieIn at size (b ∷ bs) = ((b.base ≤ at) × (at + size ≤ end_of b)) ⊎ LieIn at size bs
-
--- no live block has the slot, and one had it
-abbrev pub WasFreed : ℕ → (live ever : List Block) → ℕ → Type 0
-WasFreed g live ever slot = (holder g slot live ≡ None) × IsSome (holder g slot ever)
-
--- Data is accessed by all registers but x2 and x31: in a live block, or by a pointer whose block has ended.
-abbrev pub IsAccessSafe : ℕ → (live ever : List Block) → Event → Type 0
-IsAccessSafe g live ever (Access pc at size write base) = base ≢ 2 → base ≢ 31 → LieIn at size live ⊎ WasFreed g live ever (at / 2 ^ g)
-IsAccessSafe g live ever event = Unit {0}
-
--- by x2 the control stack is accessed, and by x31 a byte of the size table is read
-abbrev pub IsControlSafe : (live ever : List Block) → Event → Type 0
-IsControlSafe live ever (Access pc at size write base) =
-    (base ≡ 2 → (6291456 ≤ at) × (at + size ≤ 10485760))
-    × (base ≡ 31 → (write ≡ false) × (size ≡ 1) × (2097152 ≤ at) × (at < 4194304))
-IsControlSafe live ever event = Unit {0}
-
--- each event is so, by the blocks that are live when it comes, and those that were until then
-abbrev pub Each : ((live ever : List Block) → Event → Type 0) → (live ever : List Block) → List Event → Type 0
-Each P live ever [] = Unit {0}
-Each P live ever (event ∷ events) = P live ever event × Each P (live_after event live) (ever_after event ever) events
-
--- ---- Returns
-
--- where a call returns to
-abbrev pub return_place : ℕ → ℕ
-return_place pc = pc + 4
-
--- The places to which the calls return that have not returned, the last one first. There are none after a return that
--- goes elsewhere than the last of them.
-abbrev pub open_after : List ℕ → List Event → Option (List ℕ)
-open_after places [] = Some places
-open_after places (Call pc target ∷ events) = open_after (return_place pc ∷ places) events
-open_after [] (Return pc target ∷ events) = None
-open_after (place ∷ places) (Return pc target ∷ events) = if target == place then open_after places events else None
-open_after places (event ∷ events) = open_after places events
+use Rattle.size_table.specs.Blocks.{Block}
+use Rattle.size_table.specs.Table.{IsTableOf, table_in}
 
 -- ---- Endings
 
@@ -85,19 +25,23 @@ IsSafeEnding ending = Unit {0}
 
 -- ---- Runs
 
--- The size table, as it stands in memory.
-abbrev pub table_in : List ℕ → List ℕ
-table_in memory = take table_size (drop 2097152 memory)
-
--- what a run has come to is safe, where these blocks were live at the start
-pub record IsSafe (g : ℕ) (globals : List Block) (w : World) : Type 0 where
+-- what a run has come to keeps within its blocks and its code, where these blocks were live at the start
+pub record IsContained (g : ℕ) (globals : List Block) (w : World) : Type 0 where
   pub moves : Each (IsMoveSafe g) globals globals (events_of w.told)
   pub accesses : Each (IsAccessSafe g) globals globals (events_of w.told)
   pub control : Each IsControlSafe globals globals (events_of w.told)
   pub table : IsTableOf g (live_of globals (events_of w.told)) (table_in w.machine.core.memory)
   pub returns : IsSome (open_after [] (events_of w.told))
+
+-- it is safe if it has not ended by a trap of another kind besides
+pub record IsSafe (g : ℕ) (globals : List Block) (w : World) : Type 0 where
+  pub contained : IsContained g globals w
   pub traps : IsSafeEnding w.machine.ending
 
--- the first n instructions of an image are safe on an input
+-- the first n instructions of an image keep within on an input
+abbrev pub ContainedRun : ℕ → Image → List ℕ → ℕ → Type 0
+ContainedRun g image input n = (k : ℕ) → k ≤ n → IsContained g (global_blocks image) (machine_after image input k)
+
+-- they are safe
 abbrev pub SafeRun : ℕ → Image → List ℕ → ℕ → Type 0
 SafeRun g image input n = (k : ℕ) → k ≤ n → IsSafe g (global_blocks image) (machine_after image input k)

@@ -1,5 +1,7 @@
 -- What a machine holds.
 use Rattle.std.specs.Prelude.{ℕ, ◌+◌, ◌==◌, if◌then◌else◌, List, Option, Some, slice_index, slice_set}
+use Rattle.size_table.specs.declared.memory_map.TheConstants.{MEMORY_END}
+use Rattle.size_table.specs.Blocks.{Block}
 use Rattle.rv_machine.specs.declared.frames.Entered.{Entered}
 use Rattle.rv_machine.specs.declared.stop.Halt.{Halt}
 
@@ -16,15 +18,16 @@ pub record Frames : Type 0 where
   pub entered : List Entered
   pub stack : ℕ
 
--- a core, its frames, and how the machine has ended, if it has
+-- a core, its frames, the live blocks of the heap by their bases, and how the machine has ended, if it has
 pub record State : Type 0 where
   pub core : Core
   pub frames : Frames
+  pub heap : List Block
   pub ending : Option Halt
 
 -- how many bytes the memory has; the number does not unfold by itself, since it is large
 unfoldable pub memory_size : ℕ
-memory_size = 33554432
+memory_size = MEMORY_END
 
 -- the content of a register
 abbrev pub register_of : Core → ℕ → ℕ

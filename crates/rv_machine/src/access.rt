@@ -4,6 +4,7 @@ ghost use Rattle.rv_code.specs.Bits.{extended};
 ghost use Rattle.rv_machine.specs.Instruction.{access_trap};
 
 use bb_words::kinds::TrapKind;
+use size_table::memory_map::{MEMORY_END, TABLE_START, TEXT_START};
 
 /// The trap of an access to `size` bytes, or none where they lie above the text.
 pub(crate) fn trap_of(at: u32, size: u32) -> Option<TrapKind>
@@ -12,23 +13,22 @@ pub(crate) fn trap_of(at: u32, size: u32) -> Option<TrapKind>
     ensures within { IfNone result ((2097152 ≤ at) × (at < 33554432)) }
     ensures aligned { IfNone result (at % size ≡ 0) }
 {
-    if at < 0x1000 {
+    if at >= TABLE_START && at < MEMORY_END && at % size == 0 {
+        return None;
+    }
+    if at < TEXT_START {
         return Some(TrapKind::Null);
     }
     if at >= 0x8000_0000 {
         return Some(TrapKind::Marked);
     }
-    if at >= 0x200_0000 {
+    if at >= MEMORY_END {
         return Some(TrapKind::Unmapped);
     }
-    if at < 0x20_0000 {
+    if at < TABLE_START {
         return Some(TrapKind::Text);
     }
-    if at % size == 0 {
-        None
-    } else {
-        Some(TrapKind::Misaligned)
-    }
+    Some(TrapKind::Misaligned)
 }
 
 /// The word of a signed byte.

@@ -2,7 +2,7 @@
 ghost use Rattle.std.specs.Prelude.{◌≡◌, ◌≤◌};
 ghost use Rattle.std.specs.List.{AllByRecursion};
 ghost use Rattle.rv_image.specs.Rules.{total_size};
-ghost use Rattle.rv_machine.specs.Blocks.{all_made, all_ended, blocks_from, AreExponents};
+ghost use Rattle.size_table.specs.Made.{all_made, all_ended, blocks_from, AreExponents};
 ghost use Rattle.size_table.specs.Blocks.{IsBlock};
 ghost use Rattle.rv_machine.specs.State.{with_memory};
 

@@ -1,5 +1,5 @@
 //! The registers, the program counter and the memory, and the instructions on them.
-ghost use Rattle.std.specs.Prelude.{◌≡◌, ◌+◌, ◌*◌, ◌/◌, ◌%◌, ◌<◌, ◌≤◌, ◌^◌, Bool, List, [], ◌∷◌, length, slice_index, IfOk};
+ghost use Rattle.std.specs.Prelude.{◌≡◌, ◌+◌, ◌*◌, ◌/◌, ◌%◌, ◌<◌, ◌≤◌, ◌^◌, Bool, List, [], ◌∷◌, length, slice_index, IfOk, IfSome};
 ghost use Rattle.std.specs.Int.{to_le_bytes, w16, w32};
 ghost use Rattle.rv_code.specs.Bits.{extended};
 ghost use Rattle.rv_code.specs.Code.{Fits};
@@ -9,20 +9,24 @@ use crate::access::{signed_byte, signed_half, trap_of};
 use crate::memory::{
     clear_in_table, half_at, set_in_table, word_at, write_bytes, write_table, write_words, zeros,
 };
-use crate::stop::Effect;
+use crate::stop::{Effect, Pause};
 use bb_words::kinds::TrapKind;
 use bb_words::word::Word;
 use rv_code::decode::decode;
 use rv_code::instr::Instr;
 use rv_image::image::Image;
+use size_table::memory_map::{GLOBALS_START, TABLE_START, TEXT_START};
 use std::alloc::{AllocError, Global};
 use std::marker::Model;
+
+// Where the size table's bytes for the global blocks begin: it has one for 16 bytes.
+const FIRST_ENTRY: usize = 0x2A_0000;
 
 /// The machine without its environment.
 #[derive(Drop)]
 pub struct Core {
     pc: u32,
-    registers: [u32; 32],
+    registers: Vec<u32>,
     memory: Vec<u8>,
 }
 
@@ -32,19 +36,22 @@ impl Model for Core {
 
     ghost Value = { CoreState };
 
-    ghost view = { λ c. record { pc = c.pc; registers = c.registers; memory = c.memory.items } };
+    ghost view = { λ c. record { pc = c.pc; registers = c.registers.items; memory = c.memory.items } };
 
-    ghost invariant = { λ c. vec_len c.memory ≡ 33554432 };
+    ghost invariant = { λ c. (vec_len c.registers ≡ 32) × (vec_len c.memory ≡ 33554432) };
 }
 
 impl Core {
-    ghost use Rattle.size_table.specs.Blocks.{IsBlock, block_at};
+    ghost use Rattle.size_table.specs.Blocks.{Block, IsBlock, block_at};
     ghost use Rattle.size_table.specs.Table.{filled};
-    ghost use Rattle.rv_machine.specs.Blocks.{made, ended};
-    ghost use Rattle.rv_machine.specs.Memory.{half_at, word_at};
+    ghost use Rattle.size_table.specs.Made.{made, ended};
+    ghost use Rattle.size_table.specs.Memory.{half_at, word_at};
     ghost use Rattle.rv_machine.specs.State.{register_of, set_register, next, gives, with_memory};
-    ghost use Rattle.rv_machine.specs.Instruction.{address, loads, stores, jumps, links, branches, effect, core_step, Does};
+    ghost use Rattle.rv_machine.specs.Instruction.{address, loads, stores, jumps, links, branches, effect, core_step, instruction_at, Does};
     ghost use Rattle.rv_machine.specs.Start.{start};
+    ghost use Rattle.rv_machine.specs.State.{Frames};
+    ghost use Rattle.rv_machine.specs.Machine.{steps};
+    ghost use Rattle.rv_machine.specs.Runs.{Shown, Ran, Paused, running};
 
     /// The core at the start of an image. It takes all memory that the machine ever needs.
     #[tactic(auto, unfolding(crate::specs::Start::start, crate::specs::Start::start_memory))]
@@ -53,12 +60,16 @@ impl Core {
         ensures { IfOk result (λ core. core ≡ (start image.now).core) }
     {
         let mut memory = zeros(alloc)?;
-        write_words(&mut memory, 0x1000, image.text.as_slice());
-        write_table(&mut memory, 0x2A_0000, image.globals.as_slice());
-        write_bytes(&mut memory, 0xA0_0000, image.initial.as_slice());
-        let mut registers = [0u32; 32];
-        registers[2] = 0xA0_0000;
-        registers[31] = 0x20_0000;
+        write_words(&mut memory, TEXT_START as usize, image.text.as_slice());
+        write_table(&mut memory, FIRST_ENTRY, image.globals.as_slice());
+        write_bytes(
+            &mut memory,
+            GLOBALS_START as usize,
+            image.initial.as_slice(),
+        );
+        let mut registers = vec![in alloc; 0u32; 32]?;
+        registers[2] = GLOBALS_START;
+        registers[31] = TABLE_START;
         Ok(Core {
             pc: image.entry,
             registers,
@@ -86,13 +97,33 @@ impl Core {
         self.memory[at as usize]
     }
 
+    /// At most n instructions, up to one that is trapped or asks the environment.
+    ///
+    /// The core is taken and given back, so that the loop has a copy of its own: its program counter stays in a register,
+    /// and no write to the memory can reach it or the registers. It is one function for all sources and sinks.
+    #[inline(never)]
+    pub(crate) fn go(mut self, n: u64) -> (Core, Pause)
+        ensures ran { (frames : Frames) (heap : List Block) (o : Shown) → Ran (steps result.1.went) (running self frames heap) o (running result.0 frames heap) o }
+        ensures pause { Paused result.1.effect n result.1.went result.0 }
+    {
+        for went in 0..n {
+            match self.step() {
+                Effect::Went => {}
+                effect => return (self, Pause { went, effect }),
+            }
+        }
+        let effect = Effect::Went;
+        (self, Pause { went: n, effect })
+    }
+
     /// One instruction, up to a question to the environment.
+    #[inline(always)]
     #[tactic(auto, unfolding(crate::specs::Instruction::core_step))]
-    pub(crate) fn step(&mut self) -> Effect
+    fn step(&mut self) -> Effect
         ensures does { Does self.old self.new result (core_step self.old) }
         ensures in_text { result ≡ Effect.Asked → self.new.pc < 2097152 }
     {
-        if self.pc < 0x1000 || self.pc >= 0x20_0000 {
+        if self.pc < TEXT_START || self.pc >= TABLE_START {
             return Effect::Trapped {
                 kind: TrapKind::Fetch,
             };
@@ -105,7 +136,17 @@ impl Core {
         }
     }
 
+    /// The instruction at the program counter, if its word is that of one.
+    pub(crate) fn instruction(&self) -> Option<Instr>
+        requires { self.now.pc < TABLE_START }
+        ensures value { result ≡ instruction_at self.now }
+        ensures fits { IfSome result Fits }
+    {
+        decode(Word(word_at(&self.memory, self.pc as usize)))
+    }
+
     // The table of the instructions, a row for each.
+    #[inline(always)]
     fn execute(&mut self, instr: Instr) -> Effect
         requires fit { Fits instr }
         requires in_text { self.old.pc < 2097152 }
@@ -212,7 +253,7 @@ impl Core {
     }
 
     // A register plus an immediate.
-    fn address(&self, rs1: u8, imm: u32) -> u32
+    pub(crate) fn address(&self, rs1: u8, imm: u32) -> u32
         requires { rs1 < 32 }
         ensures { result ≡ address self.now rs1 imm }
     {
@@ -248,14 +289,12 @@ impl Core {
         requires in_text { self.old.pc < 2097152 }
         ensures { Does self.old self.new result (links rd to self.old) }
     {
-        if to % 4 != 0 {
-            return Effect::Trapped {
-                kind: TrapKind::Fetch,
-            };
+        let next = self.pc + 4;
+        let effect = self.jump(to);
+        if effect == Effect::Went {
+            self.set(rd, next);
         }
-        self.set(rd, self.pc + 4);
-        self.pc = to;
-        Effect::Went
+        effect
     }
 
     fn branch(&mut self, taken: bool, imm: u32) -> Effect
@@ -421,7 +460,7 @@ impl Core {
     }
 
     /// Makes a block: its bytes are zero, and the size table has its exponent.
-    #[tactic(auto, unfolding(crate::specs::Blocks::made))]
+    #[tactic(auto, unfolding(size_table::specs::Made::made))]
     pub(crate) fn make(&mut self, base: u32, exponent: u8)
         requires { IsBlock 4 (block_at base exponent) }
         ensures { self.new ≡ with_memory (made (block_at base exponent) self.old.memory) self.old }
@@ -431,7 +470,7 @@ impl Core {
     }
 
     /// Ends a block: the size table has 0 for it, and its bytes stay.
-    #[tactic(auto, unfolding(crate::specs::Blocks::ended))]
+    #[tactic(auto, unfolding(size_table::specs::Made::ended))]
     pub(crate) fn end(&mut self, base: u32, exponent: u8)
         requires { IsBlock 4 (block_at base exponent) }
         ensures { self.new ≡ with_memory (ended (block_at base exponent) self.old.memory) self.old }

@@ -10,6 +10,8 @@ pub fn example_is_safe()
     size_table::laws::block_is_marked();
     size_table::laws::marking_adds();
     size_table::laws::marking_removes();
+    buddy_heap::laws::place_is_least();
+    size_table::laws::exponent_is_least();
 }
 
 /// That image exits with status 42 after three instructions.
@@ -28,6 +30,8 @@ pub fn block_is_used_safely()
     size_table::laws::block_is_marked();
     size_table::laws::marking_adds();
     size_table::laws::marking_removes();
+    buddy_heap::laws::place_is_least();
+    size_table::laws::exponent_is_least();
 }
 
 /// That run tells all these things.
@@ -46,6 +50,8 @@ pub fn frame_is_used_safely()
     size_table::laws::block_is_marked();
     size_table::laws::marking_adds();
     size_table::laws::marking_removes();
+    buddy_heap::laws::place_is_least();
+    size_table::laws::exponent_is_least();
     crate::laws::text_stands();
 }
 
@@ -66,6 +72,8 @@ pub fn clauses_refuse()
     size_table::laws::block_is_marked();
     size_table::laws::marking_adds();
     size_table::laws::marking_removes();
+    buddy_heap::laws::place_is_least();
+    size_table::laws::exponent_is_least();
     rv_code::laws::reads_only();
 }
 

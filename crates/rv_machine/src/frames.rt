@@ -1,20 +1,16 @@
 //! The frames of an image, and the calls that were entered.
 ghost use Rattle.std.specs.Prelude.{◌≡◌, ◌+◌, ◌<◌, ◌≤◌, ◌++◌, ◌∷◌, [], length, vec_len, vec_capacity, slice_get, IfOk, IfNone, Some};
 ghost use Rattle.rv_image.specs.Rules.{IsImage, total_size, Decline, AreFrames};
-ghost use Rattle.rv_machine.specs.Blocks.{AreExponents};
+ghost use Rattle.size_table.specs.Made.{AreExponents};
 ghost use Rattle.rv_machine.specs.Frames.{stack_under};
 
 use crate::blocks::{end_all, make_all, total_size};
 use crate::core_step::Core;
+use crate::events::Events;
 use bb_words::list::List;
+use size_table::memory_map::{HEAP_START, MOST_CALLS, STACK_START};
 use std::alloc::{AllocError, Global};
 use std::marker::Model;
-
-/// How many calls may be live.
-const MOST_CALLS: usize = 4096;
-
-/// Where the data stack ends, which grows downwards.
-const STACK_END: u32 = 0xC0_0000;
 
 /// A call that was entered: the number of its frame, and the stack number that it goes back to.
 #[derive(Clone, Copy)]
@@ -119,6 +115,8 @@ fn copied(alloc: Global, layouts: &List<List<u8>>) -> Result<List<List<u8>>, All
 
 impl Frames {
     ghost use Rattle.rv_machine.specs.State.{with_memory};
+    ghost use Rattle.std.specs.Prelude.{ℕ, List, map};
+    ghost use Rattle.rv_machine.specs.Environment.{made_event, ended_event};
     ghost use Rattle.rv_machine.specs.Frames.{enter, leave, last_entered, KeepsUnlessEntered};
     ghost use Rattle.rv_machine.specs.Start.{start_frames};
 
@@ -132,8 +130,46 @@ impl Frames {
         Ok(Frames {
             layouts,
             entered,
-            stack: 0x100_0000,
+            stack: HEAP_START,
         })
+    }
+
+    /// What entering frame k tells: the blocks that it makes, in order.
+    #[tactic(auto, unfolding(crate::specs::Frames::enter))]
+    pub(crate) fn entering(&self, k: u32) -> Events<'_>
+        ensures { (memory : List ℕ) → result ≡ map made_event (enter (slice_get self.now.layouts k) k self.now memory).blocks }
+    {
+        let at = k as usize;
+        if at >= self.layouts.len() {
+            return Events::none();
+        }
+        if self.entered.len() >= MOST_CALLS {
+            return Events::none();
+        }
+        let exponents = layout(&self.layouts, at);
+        let stack = stack_under(self.stack, exponents);
+        if stack < STACK_START {
+            return Events::none();
+        }
+        Events::blocks(false, stack, exponents)
+    }
+
+    /// What leaving frame k tells: the blocks that end, the last one first.
+    #[tactic(auto, unfolding(crate::specs::Frames::leave))]
+    pub(crate) fn leaving(&self, k: u32) -> Events<'_>
+        ensures { (memory : List ℕ) → result ≡ map ended_event (leave (last_entered self.now) (slice_get self.now.layouts k) k self.now memory).blocks }
+    {
+        let count = self.entered.len();
+        if count == 0 {
+            return Events::none();
+        }
+        let call = self.entered[count - 1];
+        let at = k as usize;
+        if call.frame != k || at >= self.layouts.len() {
+            return Events::none();
+        }
+        let exponents = layout(&self.layouts, at);
+        Events::blocks(true, self.stack + total_size(exponents), exponents)
     }
 
     /// Enters frame k: makes its blocks.
@@ -153,7 +189,7 @@ impl Frames {
         }
         let exponents = layout(&self.layouts, at);
         let stack = stack_under(self.stack, exponents);
-        if stack < STACK_END {
+        if stack < STACK_START {
             return Entry::NoRoom;
         }
         make_all(core, stack, exponents);

@@ -1,5 +1,5 @@
 //! The laws of the machine, for what stands on it.
-ghost use Rattle.rv_machine.specs.Laws.{EndingStays, StepTells, ToldGrows, FieldsFit, InstructionDone, WordReadBack, OthersStay, WordsStand, StepsAdd, CoreStays, FormStays, RunsAreFormed, LiveAreLaidOut, OnlyToldChange, MadeIsZero, TextStays, TextStands, TableFollows, RunsHaveTable, TableIsKept, SafeAtEnd};
+ghost use Rattle.rv_machine.specs.Laws.{EndingStays, StepTells, ToldGrows, FieldsFit, InstructionDone, WordReadBack, OthersStay, WordsStand, StepsAdd, CoreStays, FormStays, RunsAreFormed, LiveAreLaidOut, OnlyToldChange, MadeIsZero, TextStays, TextStands, TableFollows, RunsHaveTable, TableIsKept, SafeAtEnd, ContainedAtEnd, SafeAccessesAreHigh, ByteReadBack, HalfReadBack, WordAtIndex, CallsKeep, PcIsAligned, MemoryStarts, StepRunTells, RunBegins, RunGoesOn};
 
 /// A machine that has ended stays as it is.
 pub fn ending_stays()
@@ -35,6 +35,43 @@ pub fn word_read_back()
     ensures { WordReadBack }
 {}
 
+/// So is a byte.
+pub fn byte_read_back()
+    ensures { ByteReadBack }
+{}
+
+/// And so is a half.
+pub fn half_read_back()
+    ensures { HalfReadBack }
+{}
+
+/// Of words that stand in memory, each stands at its index.
+pub fn word_at_index()
+    ensures { WordAtIndex }
+{}
+
+/// An environment call that does not end the run goes on to the next instruction, and changes no register but x10.
+pub fn calls_keep()
+    ensures { CallsKeep }
+{}
+
+/// The program counter is a multiple of 4.
+pub fn pc_is_aligned()
+    ensures { PcIsAligned }
+{}
+
+/// What stands in memory at the start: the text, the size table of the global blocks and their initial bytes, and zeros.
+pub fn memory_starts()
+    ensures { MemoryStarts }
+{
+    rv_code::laws::reads_only();
+    size_table::laws::block_is_marked();
+    size_table::laws::marking_adds();
+    size_table::laws::marking_removes();
+    buddy_heap::laws::place_is_least();
+    size_table::laws::exponent_is_least();
+}
+
 /// An instruction keeps 32 registers with words in them, register 0 at 0, and the memory's size and bytes.
 pub fn core_stays()
     ensures { CoreStays }
@@ -63,6 +100,8 @@ pub fn form_stays()
     ensures { FormStays }
 {
     rv_code::laws::reads_only();
+    buddy_heap::laws::place_is_least();
+    size_table::laws::exponent_is_least();
 }
 
 /// So this holds after each instruction of every run of an image.
@@ -70,6 +109,8 @@ pub fn runs_are_formed()
     ensures { RunsAreFormed }
 {
     rv_code::laws::reads_only();
+    buddy_heap::laws::place_is_least();
+    size_table::laws::exponent_is_least();
 }
 
 /// The live blocks are aligned to their size and lie in their regions, and no two of them meet.
@@ -81,18 +122,26 @@ pub fn live_are_laid_out()
 /// writes to blocks that it makes and to the size table.
 pub fn only_told_change()
     ensures { OnlyToldChange }
-{}
+{
+    buddy_heap::laws::place_is_least();
+    size_table::laws::exponent_is_least();
+}
 
 /// The bytes of a block that was made are zero.
 pub fn made_is_zero()
     ensures { MadeIsZero }
-{}
+{
+    buddy_heap::laws::place_is_least();
+    size_table::laws::exponent_is_least();
+}
 
 /// The text's region stays as it was at the start.
 pub fn text_stays()
     ensures { TextStays }
 {
     rv_code::laws::reads_only();
+    buddy_heap::laws::place_is_least();
+    size_table::laws::exponent_is_least();
 }
 
 /// The words of an image's text stand in memory from 0x1000 on, in every run.
@@ -100,6 +149,8 @@ pub fn text_stands()
     ensures { TextStands }
 {
     rv_code::laws::reads_only();
+    buddy_heap::laws::place_is_least();
+    size_table::laws::exponent_is_least();
 }
 
 /// The size table is that of the live blocks, before and after an instruction that does not itself write to it.
@@ -110,6 +161,8 @@ pub fn table_follows()
     size_table::laws::block_is_marked();
     size_table::laws::marking_adds();
     size_table::laws::marking_removes();
+    buddy_heap::laws::place_is_least();
+    size_table::laws::exponent_is_least();
 }
 
 /// So it is in every run of a program that never writes to it.
@@ -120,6 +173,8 @@ pub fn runs_have_table()
     size_table::laws::block_is_marked();
     size_table::laws::marking_adds();
     size_table::laws::marking_removes();
+    buddy_heap::laws::place_is_least();
+    size_table::laws::exponent_is_least();
 }
 
 /// A run whose accesses are safe, and that keeps control, has the size table of the live blocks.
@@ -130,6 +185,28 @@ pub fn table_is_kept()
     size_table::laws::block_is_marked();
     size_table::laws::marking_adds();
     size_table::laws::marking_removes();
+    buddy_heap::laws::place_is_least();
+    size_table::laws::exponent_is_least();
+}
+
+/// Safe accesses by other registers than x2 and x31 are to the globals or above.
+pub fn safe_accesses_are_high()
+    ensures { SafeAccessesAreHigh }
+{
+    buddy_heap::laws::place_is_least();
+    size_table::laws::exponent_is_least();
+}
+
+/// A run that keeps within its blocks and its code at its end does so throughout.
+pub fn contained_at_end()
+    ensures { ContainedAtEnd }
+{
+    rv_code::laws::reads_only();
+    size_table::laws::block_is_marked();
+    size_table::laws::marking_adds();
+    size_table::laws::marking_removes();
+    buddy_heap::laws::place_is_least();
+    size_table::laws::exponent_is_least();
 }
 
 /// A run that is safe at its end is safe.
@@ -140,4 +217,21 @@ pub fn safe_at_end()
     size_table::laws::block_is_marked();
     size_table::laws::marking_adds();
     size_table::laws::marking_removes();
+    buddy_heap::laws::place_is_least();
+    size_table::laws::exponent_is_least();
 }
+
+/// A run of one instruction tells what the state before it gives, so a runner outside can read it before (`Machine::events`).
+pub fn step_run_tells()
+    ensures { StepRunTells }
+{}
+
+/// A run of no instruction tells nothing.
+pub fn run_begins()
+    ensures { RunBegins }
+{}
+
+/// A run goes on by an instruction, and tells what both told.
+pub fn run_goes_on()
+    ensures { RunGoesOn }
+{}

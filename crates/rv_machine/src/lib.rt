@@ -4,6 +4,7 @@
 mod access;
 mod blocks;
 mod core_step;
+pub mod events;
 pub mod examples;
 mod frames;
 pub mod laws;
@@ -12,3 +13,4 @@ mod memory;
 pub mod stop;
 #[cfg(test)]
 mod tests;
+mod told;

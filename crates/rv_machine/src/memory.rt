@@ -1,10 +1,11 @@
 //! Bytes and words in memory.
 ghost use Rattle.std.specs.Prelude.{◌≡◌, ◌+◌, ◌-◌, ◌*◌, ◌^◌, ◌≤◌, length, replicate, vec_len, IfOk, All};
 ghost use Rattle.size_table.specs.Blocks.{IsBlock, block_at};
-ghost use Rattle.rv_machine.specs.Blocks.{tabled};
+ghost use Rattle.size_table.specs.Made.{tabled};
 ghost use Rattle.rv_machine.specs.State.{memory_size};
-ghost use Rattle.rv_machine.specs.Memory.{half_at, word_at, written_at, bytes_of_words, table_bytes, IsExponent};
+ghost use Rattle.size_table.specs.Memory.{half_at, word_at, written_at, bytes_of_words, table_bytes, IsExponent};
 
+use size_table::memory_map::{TABLE_END, TABLE_START};
 use std::alloc::{AllocError, Global};
 
 // The bytes of the machine's memory.
@@ -93,7 +94,11 @@ pub(crate) fn set_in_table(memory: &mut [u8], base: u32, exponent: u8)
     requires block { IsBlock 4 (block_at base exponent) }
     ensures { memory.new ≡ tabled exponent (block_at base exponent) memory.old }
 {
-    size_table::set(&mut memory[0x20_0000..0x40_0000], base, exponent);
+    size_table::set(
+        &mut memory[TABLE_START as usize..TABLE_END as usize],
+        base,
+        exponent,
+    );
 }
 
 /// A block ends: each of its slots has 0 in the size table.
@@ -102,5 +107,9 @@ pub(crate) fn clear_in_table(memory: &mut [u8], base: u32, exponent: u8)
     requires block { IsBlock 4 (block_at base exponent) }
     ensures { memory.new ≡ tabled 0 (block_at base exponent) memory.old }
 {
-    size_table::clear(&mut memory[0x20_0000..0x40_0000], base, exponent);
+    size_table::clear(
+        &mut memory[TABLE_START as usize..TABLE_END as usize],
+        base,
+        exponent,
+    );
 }

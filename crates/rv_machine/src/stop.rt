@@ -46,3 +46,11 @@ pub(crate) enum Effect {
     /// It asks the environment.
     Asked,
 }
+
+/// How a core stands after so many instructions that went, and what became of the next; `Went` says that all that were
+/// allowed went.
+#[derive(Clone, Copy, Debug, PartialEq, Eq)]
+pub(crate) struct Pause {
+    pub(crate) went: u64,
+    pub(crate) effect: Effect,
+}

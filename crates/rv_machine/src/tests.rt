@@ -5,6 +5,7 @@ use crate::machine::Machine;
 use crate::stop::Stop;
 use bb_outside::mem_sink::MemSink;
 use bb_outside::mem_source::MemSource;
+use bb_watch::event::Event;
 use bb_words::kinds::{ReportKind, TrapKind};
 use bb_words::list::List;
 use rv_image::image::Image;
@@ -148,15 +149,16 @@ fn ends_as_told(rt: HostRuntime) -> Result<(), Fail> {
         ),
         // calls 4, 5 and 9
         (
-            [0x0040_0893, 0x0000_0073, 0x0000_0000, 0x0000_0000],
+            [0x0090_0893, 0x0000_0073, 0x0000_0000, 0x0000_0000],
             Stop::Trapped {
                 kind: TrapKind::Call,
             },
         ),
         (
-            [0x0050_0893, 0x0000_0073, 0x0000_0000, 0x0000_0000],
-            Stop::Trapped {
-                kind: TrapKind::Call,
+            [0x0050_0893, 0x0100_0513, 0x0080_0593, 0x0000_0073],
+            Stop::Reported {
+                kind: ReportKind::BadFree,
+                line: 8,
             },
         ),
         (
@@ -273,6 +275,47 @@ fn enters_and_leaves(rt: HostRuntime) -> Result<(), Fail> {
 }
 
 #[test]
+fn makes_and_ends_blocks_of_the_heap(rt: HostRuntime) -> Result<(), Fail> {
+    let alloc = rt.alloc();
+    let mut input = MemSource::new(alloc, b"", &[])?;
+    let mut output = MemSink::new(alloc, 10, &[])?;
+    let words = [
+        0x0040_0893, // addi x17, x0, 4
+        0x0140_0513, // addi x10, x0, 20
+        0x0000_0073, // ecall
+        0x00A5_2023, // sw x10, 0(x10)
+        0x0005_0293, // addi x5, x10, 0
+        0x0100_0537, // lui x10, 0x1000
+        0x0015_0513, // addi x10, x10, 1
+        0x0000_0073, // ecall
+        0x0050_0893, // addi x17, x0, 5
+        0x0002_8513, // addi x10, x5, 0
+        0x0090_0593, // addi x11, x0, 9
+        0x0000_0073, // ecall
+        0x0000_0073, // ecall
+    ];
+    let mut machine = Machine::new(alloc, &image(alloc, &words)?)?;
+    assert_eq!(rt; machine.run(4, &mut input, &mut output), Stop::OutOfSteps);
+    assert_eq!(rt; machine.register(10).0, 0x100_0000);
+    assert_eq!(rt; machine.byte(0x100_0003), 1);
+    assert_eq!(rt; machine.byte(0x30_0000), 5);
+    assert_eq!(rt; machine.byte(0x30_0001), 5);
+    assert_eq!(rt; machine.byte(0x30_0002), 0);
+    assert_eq!(rt; machine.run(4, &mut input, &mut output), Stop::OutOfSteps);
+    assert_eq!(rt; machine.register(10).0, 0);
+    assert_eq!(rt; machine.run(4, &mut input, &mut output), Stop::OutOfSteps);
+    assert_eq!(rt; machine.register(10).0, 0x100_0000);
+    assert_eq!(rt; machine.byte(0x30_0000), 0);
+    // No block begins there any more.
+    let bad_free = Stop::Reported {
+        kind: ReportKind::BadFree,
+        line: 9,
+    };
+    assert_eq!(rt; machine.run(4, &mut input, &mut output), bad_free);
+    Ok(())
+}
+
+#[test]
 fn runs_in_pieces(rt: HostRuntime) -> Result<(), Fail> {
     let alloc = rt.alloc();
     // getchar, putchar, and exit with what putchar left in x10
@@ -300,5 +343,27 @@ fn runs_in_pieces(rt: HostRuntime) -> Result<(), Fail> {
     assert_eq!(rt; machine.run(5, &mut input, &mut output), Stop::Exited(65));
     assert_eq!(rt; machine.byte(0x1000), 0x93);
     assert_eq!(rt; machine.pc(), 0x1018);
+    Ok(())
+}
+
+#[test]
+fn tells_events_before_a_step(rt: HostRuntime) -> Result<(), Fail> {
+    let alloc = rt.alloc();
+    let mut input = MemSource::new(alloc, b"", &[])?;
+    let mut output = MemSink::new(alloc, 10, &[])?;
+    let words = [
+        0x0070_0893, // addi x17, x0, 7
+        0x0000_0073, // ecall
+    ];
+    let made = Event::Made {
+        at: 0xFF_FFE0,
+        exponent: 5,
+    };
+    let mut machine = Machine::new(alloc, &image(alloc, &words)?)?;
+    let _fault = machine.step(&mut input, &mut output);
+    assert_eq!(rt; machine.events().next(), Some(made));
+    let _fault = machine.step(&mut input, &mut output);
+    assert_eq!(rt; machine.register(10).0, 0xFF_FFE0);
+    assert_eq!(rt; machine.stop(), Stop::OutOfSteps);
     Ok(())
 }

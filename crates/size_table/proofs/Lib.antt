@@ -1,2 +1,4 @@
 pub mod Tables
 pub mod Fills
+pub mod Pads
+pub mod Exponents

@@ -1,5 +1,6 @@
 -- Blocks of memory, and the slots that they hold. A slot has 2 ^ g bytes.
-use Rattle.std.specs.Prelude.{◌≡◌, ◌⊎◌, ℕ, ◌+◌, ◌*◌, ◌%◌, ◌^◌, ◌≤◌, Bool, ◌&&◌, List, [], ◌∷◌, nat_le}
+use Rattle.std.specs.Prelude.{◌≡◌, ◌==◌, ◌⊎◌, ℕ, ◌+◌, ◌*◌, ◌%◌, ◌^◌, ◌≤◌, Bool, ◌&&◌, List, [], ◌∷◌, nat_le, if◌then◌else◌}
+use Rattle.size_table.specs.declared.memory_map.TheConstants.{MEMORY_END}
 
 -- the 2 ^ exponent bytes from base on
 pub record Block : Type 0 where
@@ -18,7 +19,7 @@ pub record IsBlock (g : ℕ) (block : Block) : Type 0 where
   pub least : g ≤ block.exponent
   pub most : block.exponent ≤ 24
   pub aligned : block.base % 2 ^ block.exponent ≡ 0
-  pub within : end_of block ≤ 33554432
+  pub within : end_of block ≤ MEMORY_END
 
 -- the bytes of the slot, which begin at a multiple of their number, all lie in the block
 abbrev pub holds : ℕ → Block → ℕ → Bool
@@ -37,3 +38,20 @@ MissesAll block (b ∷ bs) = MissEachOther block b × MissesAll block bs
 abbrev pub AreDisjoint : List Block → Type 0
 AreDisjoint [] = Unit {0}
 AreDisjoint (b ∷ bs) = MissesAll b bs × AreDisjoint bs
+
+-- the blocks without the one that begins there
+abbrev pub without : ℕ → List Block → List Block
+without at [] = []
+without at (b ∷ bs) = if b.base == at then bs else b ∷ without at bs
+
+-- how often a block stands in a list
+abbrev pub one_of : Block → Block → ℕ
+one_of b c = if (b.base == c.base) && (b.exponent == c.exponent) then 1 else 0
+
+abbrev pub count_in : Block → List Block → ℕ
+count_in b [] = 0
+count_in b (c ∷ cs) = one_of b c + count_in b cs
+
+-- two lists have the same blocks, in some order
+abbrev pub SameBlocks : List Block → List Block → Type 0
+SameBlocks xs ys = (b : Block) → count_in b xs ≡ count_in b ys

@@ -1,2 +1,5 @@
 pub mod Blocks
+pub mod Pads
 pub mod Table
+pub mod Made
+pub mod Memory

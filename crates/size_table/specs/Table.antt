@@ -1,10 +1,15 @@
 -- The size table of a list of blocks.
 use Rattle.std.specs.Prelude.{◌≡◌, ℕ, ◌+◌, ◌/◌, ◌^◌, ◌<◌, ◌≤◌, true, List, [], ◌∷◌, ◌++◌, length, take, drop, replicate, slice_index, if◌then◌else◌}
+use Rattle.size_table.specs.declared.memory_map.TheConstants.{TABLE_START}
 use Rattle.size_table.specs.Blocks.{Block, IsBlock, block_at, holds, MissesAll, AreDisjoint}
 
 -- how many bytes the table has
 abbrev pub table_size : ℕ
 table_size = 2097152
+
+-- the table, as it stands in memory
+abbrev pub table_in : List ℕ → List ℕ
+table_in memory = take table_size (drop TABLE_START memory)
 
 -- the exponent of the block that holds the slot, or 0
 abbrev pub byte_of : ℕ → List Block → ℕ → ℕ

@@ -1,4 +1,5 @@
 //! The laws of the size table, for what stands on it.
+ghost use Rattle.size_table.specs.Pads.{ExponentIsLeast};
 ghost use Rattle.size_table.specs.Table.{HoldersByteLaw, FilledLaw, BlockIsMarked, MarkingAdds, MarkingRemoves};
 
 /// If blocks don't meet, the byte of a slot is the exponent of whichever of them holds it.
@@ -24,4 +25,9 @@ pub fn marking_adds()
 /// Marking a block with 0 removes it from the table.
 pub fn marking_removes()
     ensures { MarkingRemoves }
+{}
+
+/// The exponent of a padded size is the least one, from a slot's on, whose power is at least the size.
+pub fn exponent_is_least()
+    ensures { ExponentIsLeast }
 {}

@@ -6,22 +6,27 @@
 //! address in it.
 #![tactic(auto)]
 
+pub mod calls;
 pub mod laws;
+pub mod memory_map;
+pub mod padding;
 
 ghost use Rattle.std.specs.Prelude.{◌≡◌, ℕ, ◌/◌, ◌^◌, ◌<◌, ◌≤◌, List, length, slice_index};
 ghost use Rattle.size_table.specs.Blocks.{IsBlock, block_at};
 ghost use Rattle.size_table.specs.Table.{Marks, Adds, Removes, TellsBlocks, filled, table_size};
 
+use crate::memory_map::SLOT_EXPONENT;
+
 /// How many bytes a slot has.
-const SLOT: usize = 16;
+const SLOT: usize = 1 << SLOT_EXPONENT;
 
 /// A block of 2^e bytes begins at `base`: writes e into the byte of each of its slots.
 pub fn set(table: &mut [u8], base: u32, e: u8)
     requires size { length table.old ≡ table_size }
-    requires block { IsBlock 4 (block_at base e) }
+    requires block { IsBlock SLOT_EXPONENT (block_at base e) }
     ensures exact { table.new ≡ filled table.old (base / 16) (2 ^ e / 16) e }
-    ensures bytes { Marks 4 (block_at base e) e table.old table.new }
-    ensures added { Adds 4 (block_at base e) table.old table.new }
+    ensures bytes { Marks SLOT_EXPONENT (block_at base e) e table.old table.new }
+    ensures added { Adds SLOT_EXPONENT (block_at base e) table.old table.new }
 {
     fill(table, base, e, e);
 }
@@ -29,10 +34,10 @@ pub fn set(table: &mut [u8], base: u32, e: u8)
 /// The block of 2^e bytes at `base` ends: writes 0 into the byte of each of its slots.
 pub fn clear(table: &mut [u8], base: u32, e: u8)
     requires size { length table.old ≡ table_size }
-    requires block { IsBlock 4 (block_at base e) }
+    requires block { IsBlock SLOT_EXPONENT (block_at base e) }
     ensures exact { table.new ≡ filled table.old (base / 16) (2 ^ e / 16) 0 }
-    ensures bytes { Marks 4 (block_at base e) 0 table.old table.new }
-    ensures removed { Removes 4 (block_at base e) table.old table.new }
+    ensures bytes { Marks SLOT_EXPONENT (block_at base e) 0 table.old table.new }
+    ensures removed { Removes SLOT_EXPONENT (block_at base e) table.old table.new }
 {
     fill(table, base, e, 0);
 }
@@ -42,7 +47,7 @@ pub fn look(table: &[u8], slot: u32) -> u8
     requires size { length table.now ≡ table_size }
     requires slot { slot < table_size }
     ensures byte { result ≡ slice_index table.now slot }
-    ensures tells { TellsBlocks 4 table.now slot result }
+    ensures tells { TellsBlocks SLOT_EXPONENT table.now slot result }
 {
     table[slot as usize]
 }
@@ -51,7 +56,7 @@ pub fn look(table: &[u8], slot: u32) -> u8
 #[tactic(auto, unfolding(crate::specs::Table::filled))]
 fn fill(table: &mut [u8], base: u32, e: u8, byte: u8)
     requires size { length table.old ≡ table_size }
-    requires block { IsBlock 4 (block_at base e) }
+    requires block { IsBlock SLOT_EXPONENT (block_at base e) }
     ensures { table.new ≡ filled table.old (base / 16) (2 ^ e / 16) byte }
 {
     let first = base as usize / SLOT;

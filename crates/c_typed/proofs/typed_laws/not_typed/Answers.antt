@@ -1,4 +1,4 @@
-use Rattle.c_typed.proofs.TypedPrograms.{not_typed}
+use Rattle.c_typed.proofs.Refused.{not_typed}
 use Rattle.c_typed.proofs.typed_laws.not_typed.Goals as goal
 
 pub returns : goal.returns

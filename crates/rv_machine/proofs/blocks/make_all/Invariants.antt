@@ -1,6 +1,6 @@
 use Rattle.std.proofs.Common.{◌≡◌, drop}
 use Rattle.std.specs.List.{AllByRecursion}
-use Rattle.rv_machine.specs.Blocks.{all_made, blocks_from}
+use Rattle.size_table.specs.Made.{all_made, blocks_from}
 use Rattle.size_table.specs.Blocks.{IsBlock}
 use Rattle.rv_machine.specs.State.{with_memory}
 use Rattle.rv_machine.proofs.blocks.make_all.Given as goal

@@ -7,4 +7,5 @@ returns c = block_is_used_safely c.reads_back.ensures (record {
   marked = c.block_is_marked.ensures;
   adds = c.marking_adds.ensures;
   removes = c.marking_removes.ensures;
+  heap = record { place = c.place_is_least.ensures; exponent = c.exponent_is_least.ensures };
 })

@@ -1,4 +1,4 @@
-use Rattle.rv_machine.specs.Memory.{word_at}
+use Rattle.size_table.specs.Memory.{word_at}
 use Rattle.rv_machine.proofs.laws.fields_fit.Goals as goal
 
 pub returns : goal.returns

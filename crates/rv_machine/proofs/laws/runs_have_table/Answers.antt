@@ -10,5 +10,6 @@ returns c = λ image input n h initial bytes off.
       marked = c.block_is_marked.ensures;
       adds = c.marking_adds.ensures;
       removes = c.marking_removes.ensures;
+      heap = record { place = c.place_is_least.ensures; exponent = c.exponent_is_least.ensures };
     } in
     steps_table n below image _ h (start_formed image input h initial bytes) (start_has_table below image input h initial) off

@@ -8,5 +8,5 @@ pub returns : goal.returns
 returns c = λ image input n h initial bytes words.
     let fits = h.text_fits in
     stand_same image.text (start_memory image) _ 4096
-    (λ i l. steps_text c.reads_only.ensures n image _ i h (start_formed image input h initial bytes) (omega (arith, l, fits)) ∙ start_byte image i)
+    (λ i l. steps_text c.reads_only.ensures (record { place = c.place_is_least.ensures; exponent = c.exponent_is_least.ensures }) n image _ i h (start_formed image input h initial bytes) (omega (arith, l, fits)) ∙ start_byte image i)
     (start_stands image h words)

@@ -1,5 +1,5 @@
 use Rattle.std.proofs.Common.{◌≡◌, ◌+◌, drop}
-use Rattle.rv_machine.specs.Memory.{written_at}
+use Rattle.size_table.specs.Memory.{written_at}
 use Rattle.rv_machine.proofs.memory.write_bytes.Given as goal
 
 abbrev pub invariant-loop-i : goal.invariant-loop-i

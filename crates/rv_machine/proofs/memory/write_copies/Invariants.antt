@@ -1,6 +1,6 @@
 use Rattle.std.proofs.Common.{◌≡◌, ◌+◌, ◌-◌}
 use Rattle.std.specs.Prelude.{replicate}
-use Rattle.rv_machine.specs.Memory.{written_at}
+use Rattle.size_table.specs.Memory.{written_at}
 use Rattle.rv_machine.proofs.memory.write_copies.Given as goal
 
 abbrev pub invariant-loop-i : goal.invariant-loop-i

@@ -1,5 +1,5 @@
 use Rattle.std.proofs.Common.{◌≡◌, ◌+◌, ◌≤◌, length, drop}
-use Rattle.rv_machine.specs.Memory.{written_at, table_bytes}
+use Rattle.size_table.specs.Memory.{written_at, table_bytes}
 use Rattle.rv_machine.proofs.memory.write_table.Given as goal
 
 abbrev pub invariant-loop-exponent : goal.invariant-loop-exponent

@@ -1,5 +1,5 @@
 use Rattle.std.proofs.Common.{◌≡◌, ◌+◌, ◌*◌, drop}
-use Rattle.rv_machine.specs.Memory.{written_at, bytes_of_words}
+use Rattle.size_table.specs.Memory.{written_at, bytes_of_words}
 use Rattle.rv_machine.proofs.memory.write_words.Given as goal
 
 abbrev pub invariant-loop-i : goal.invariant-loop-i

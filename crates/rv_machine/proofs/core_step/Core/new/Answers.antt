@@ -1,5 +1,5 @@
 use Rattle.std.proofs.Common.{ℕ, List, length, ap, arith, lit<}
-use Rattle.rv_machine.specs.Memory.{table_bytes}
+use Rattle.size_table.specs.Memory.{table_bytes}
 use Rattle.rv_machine.proofs.Tables.{table_length, exponents_decline}
 use Rattle.rv_machine.proofs.core_step.Core.new.Goals as goal
 

@@ -2,7 +2,7 @@ use Rattle.std.proofs.Common.{◌≡◌, refl, sym, ap, ◌∙◌, arith}
 use Rattle.rv_machine.specs.State.{State, register_of}
 use Rattle.rv_machine.specs.Environment.{calls}
 use Rattle.rv_machine.proofs.Outside.{ran_at}
-use Rattle.rv_machine.proofs.Calls.{IsNoCall, call_exits, call_gets, call_puts, call_reports, call_enters, call_leaves, call_traps, call_failed}
+use Rattle.rv_machine.proofs.Calls.{IsNoCall, call_exits, call_gets, call_puts, call_mallocs, call_frees, call_reports, call_enters, call_leaves, call_traps, call_failed}
 use Rattle.rv_machine.proofs.machine.Machine.call.Goals as goal
 
 pub returns-in-1-clause-stepped : goal.returns-in-1-clause-stepped
@@ -30,6 +30,16 @@ returns-in-Err-putchar-clause-stepped g c =
     let is = ap (λ (x : State). register_of x.core 17) (sym c.self.view_is) ∙ sym c.register.ensures ∙ c.in-3.is in
     call_failed 3 _ _ _ _ c.requires.running c.requires.asks is (c.in-Err-putchar.ensures.answered (g.I.Source.left c.args.input.now) (g.I.Source.is_over c.args.input.now))
 
+pub returns-in-4-clause-stepped : goal.returns-in-4-clause-stepped
+returns-in-4-clause-stepped g c =
+    let is = ap (λ (x : State). register_of x.core 17) (sym c.self.view_is) ∙ sym c.register.ensures ∙ c.in-4.is in
+    ran_at calls _ _ _ _ _ _ refl (sym c.malloc.ensures) (call_mallocs c.args.self.now _ is)
+
+pub returns-in-5-clause-stepped : goal.returns-in-5-clause-stepped
+returns-in-5-clause-stepped g c =
+    let is = ap (λ (x : State). register_of x.core 17) (sym c.self.view_is) ∙ sym c.register.ensures ∙ c.in-5.is in
+    ran_at calls _ _ _ _ _ _ refl (sym c.free.ensures) (call_frees c.args.self.now _ is)
+
 pub returns-in-6-clause-stepped : goal.returns-in-6-clause-stepped
 returns-in-6-clause-stepped g c =
     let is = ap (λ (x : State). register_of x.core 17) (sym c.self.view_is) ∙ sym c.register.ensures ∙ c.in-6.is in
@@ -52,6 +62,8 @@ returns-in_default-clause-stepped g c =
       not_1 = grind (arith, is, c.in_default);
       not_2 = grind (arith, is, c.in_default);
       not_3 = grind (arith, is, c.in_default);
+      not_4 = grind (arith, is, c.in_default);
+      not_5 = grind (arith, is, c.in_default);
       not_6 = grind (arith, is, c.in_default);
       not_7 = grind (arith, is, c.in_default);
       not_8 = grind (arith, is, c.in_default);

@@ -6,7 +6,7 @@ use Rattle.rv_machine.proofs.machine.Machine.getchar.Goals as goal
 
 pub returns-in-Ok-Some-clause-answered : goal.returns-in-Ok-Some-clause-answered
 returns-in-Ok-Some-clause-answered g c = λ written.
-    let s : State = record { core = c.self.inside.core; frames = c.self.inside.frames; ending = c.self.inside.ended } in
+    let s : State = record { core = c.self.inside.core; frames = c.self.inside.frames; heap = c.self.inside.heap; ending = c.self.inside.ended } in
     let took = rw c.in-Ok-Some.field-0-is at c.in-Ok-Some.ensures.bytes in
     let ends = rw c.in-Ok-Some.field-0-is at c.in-Ok-Some.ensures.end in
     let given = c.give.ensures ∙ ap (λ (v : ℕ). gives 10 v c.self.inside.core) c.from.ensures in
@@ -14,7 +14,7 @@ returns-in-Ok-Some-clause-answered g c = λ written.
 
 pub returns-in-Ok-None-clause-answered : goal.returns-in-Ok-None-clause-answered
 returns-in-Ok-None-clause-answered g c = λ written.
-    let s : State = record { core = c.self.inside.core; frames = c.self.inside.frames; ending = c.self.inside.ended } in
+    let s : State = record { core = c.self.inside.core; frames = c.self.inside.frames; heap = c.self.inside.heap; ending = c.self.inside.ended } in
     let took = rw c.in-Ok-None.field-0-is at c.in-Ok-None.ensures.bytes in
     let ends = rw c.in-Ok-None.field-0-is at c.in-Ok-None.ensures.end in
     ran_at gets s _ (with_core (gives 10 4294967295 c.self.inside.core) s) _ _ _ c.self.view_is (ap (λ (x : Core). with_core x s) (sym c.give-in-Ok-None.ensures)) (ran_end s _ _ _ _ written took ends)

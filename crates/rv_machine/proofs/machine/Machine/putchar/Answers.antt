@@ -6,7 +6,7 @@ use Rattle.rv_machine.proofs.machine.Machine.putchar.Goals as goal
 
 pub returns-in-Ok-clause-answered : goal.returns-in-Ok-clause-answered
 returns-in-Ok-clause-answered g c = λ left is_over.
-    let s : State = record { core = c.self.inside.core; frames = c.self.inside.frames; ending = c.self.inside.ended } in
+    let s : State = record { core = c.self.inside.core; frames = c.self.inside.frames; heap = c.self.inside.heap; ending = c.self.inside.ended } in
     let byte = c.register.result % 256 in
     let is = ap (λ (v : ℕ). v % 256) (sym c.register.ensures) in
     let given = c.give.ensures ∙ ap (λ (v : ℕ). gives 10 v c.self.inside.core) c.from.ensures in

@@ -1,0 +1,13 @@
+pub mod Code
+pub mod CodeViews
+pub mod Told
+pub mod World
+pub mod Accounts
+pub mod Time
+pub mod Run
+pub mod Sequences
+pub mod Laws
+pub mod Recognized
+pub mod Weight
+pub mod Examples
+pub mod Safety

@@ -1,0 +1,4 @@
+pub mod Words
+pub mod Memory
+pub mod Trail
+pub mod Worlds

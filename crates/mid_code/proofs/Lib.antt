@@ -1,0 +1,3 @@
+pub mod Views
+pub mod Watched
+pub mod Examples

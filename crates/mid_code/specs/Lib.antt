@@ -1,0 +1,11 @@
+pub mod Code
+pub mod Times
+pub mod Meaning
+pub mod Runs
+pub mod Kinds
+pub mod Formed
+pub mod Safe
+pub mod Weight
+pub mod Views
+pub mod Laws
+pub mod Examples

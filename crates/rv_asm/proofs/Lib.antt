@@ -1,0 +1,9 @@
+pub mod Machine
+pub mod Jumps
+pub mod Branches
+pub mod Reach
+pub mod Labelling
+pub mod Growing
+pub mod Whole
+pub mod Settled
+pub mod Indexing

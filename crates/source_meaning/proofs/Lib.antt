@@ -1,0 +1,11 @@
+pub mod Binding
+pub mod Later
+pub mod Operations
+pub mod Longer
+pub mod Expressions
+pub mod MoreTurns
+pub mod ExamplesMoves
+pub mod ExamplesMemory
+pub mod ExamplesCopies
+pub mod ExamplesCalls
+pub mod ExamplesAccounts
