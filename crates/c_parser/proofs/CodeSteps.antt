@@ -1,5 +1,6 @@
 -- What a function has read so far, and what it goes on to read.
-use Rattle.std.proofs.Common.{◌≡◌, ℕ, Bool, true, false, cond, List, [], ◌∷◌, Option, Some, None, Result, Ok, Err, refl, sym, subst}
+use Rattle.std.proofs.Common.{◌≡◌, ℕ, ◌<◌, length, arith, Bool, true, false, cond, List, [], ◌∷◌, Option, Some, None, Result, Ok, Err, refl, sym, ap, subst}
+use Rattle.std.proofs.lemmas.Bool.{false≢true}
 use Rattle.c_words.specs.Tokens.{Token, Placed}
 use Rattle.c_words.specs.declared.place.At.{At}
 use Rattle.c_words.specs.declared.words.Punctuator.{Punctuator}
@@ -9,9 +10,9 @@ use Rattle.c_parser.specs.declared.cursor.Stop.{Stop}
 use Rattle.c_parser.specs.declared.cursor.Stop.TheVariants as stop
 use Rattle.c_parser.specs.Programs.{Sort, Value, Rule, Program, Outcome}
 use Rattle.c_parser.specs.Tests.{first}
-use Rattle.c_parser.specs.Bodies.{body, when}
+use Rattle.c_parser.specs.Bodies.{body, when, reads}
 use Rattle.c_parser.specs.Runs.{Runs, token_at}
-use Rattle.c_parser.specs.Reads.{Reads, Takes, Answers, Fails}
+use Rattle.c_parser.specs.Reads.{Reads, Takes, TakesNext, Sees, Answers, Fails}
 
 after_call : {s t : Sort} {A B : Type 0} (r : Rule s) (v : A → Value s) (f : Value s → Program t) (w : B → Value t) (old mid new : List Placed) (x : A) (res : Result B Stop)
     → Runs within_limits s (body r) old (Outcome.read (v x) mid) → Answers t (f (v x)) w mid res new → Answers t (Program.call r f) w old res new
@@ -46,10 +47,10 @@ pub call_failed : {s t : Sort} {A B : Type 0} {r : Rule s} {v : A → Value s} {
     → Reads s (body r) v old (Err e) new → Reads t (Program.call r f) w old (Err e) new
 call_failed {r = r} {f = f} {old = old} {new = new} {e = e} a = record { answer = failed r f old new e a.answer }
 
-pub took : {s : Sort} {B : Type 0} {m : Punctuator} {within : Bool} {f : At → Program s} {w : B → Value s} {old mid new : List Placed} {at : At} {res : Result B Stop}
-    → Takes m within old (Ok at) mid → Reads s (f at) w mid res new → Reads s (Program.take (Token.Mark m) within f) w old res new
-took {s = s} {m = m} {within = within} {f = f} {w = w} {old = old} {mid = mid} {new = new} {at = at} {res = res} a n =
-    record { answer = subst (λ z. Answers s (Program.take (Token.Mark m) within f) w z res new) (sym a.answer.1) (taken (Token.Mark m) within f w at mid new res a.answer.0 n.answer) }
+pub took : {s : Sort} {B : Type 0} {c : Token} {within : Bool} {f : At → Program s} {w : B → Value s} {old mid new : List Placed} {at : At} {res : Result B Stop}
+    → Takes c within old (Ok at) mid → Reads s (f at) w mid res new → Reads s (Program.take c within f) w old res new
+took {s = s} {c = c} {within = within} {f = f} {w = w} {old = old} {mid = mid} {new = new} {at = at} {res = res} a n =
+    record { answer = subst (λ z. Answers s (Program.take c within f) w z res new) (sym a.answer.1) (taken c within f w at mid new res a.answer.0 n.answer) }
 
 pub gave : {s : Sort} {A : Type 0} {v : A → Value s} {x : A} {y : Value s} {old : List Placed} → v x ≡ y → Reads s (Program.give y) v old (Ok x) old
 gave {s = s} {y = y} {old = old} e = record { answer = subst (λ z. Runs within_limits s (Program.give y) old (Outcome.read z old)) (sym e) Runs.give }
@@ -65,17 +66,89 @@ pub when_no : {s : Sort} {A : Type 0} (test : Option Token → Bool) (p q : Prog
     → test (first old) ≡ false → Reads s q v old res new → Reads s (when test p q) v old res new
 when_no {s = s} test p q {v = v} {old = old} {new = new} {res = res} e n = record { answer = seen (λ c. cond (test c) p q) v old new res (rw e n.answer) }
 
-refused_take : (s : Sort) (m : Punctuator) (within : Bool) (f : At → Program s) (old new : List Placed) (e : Stop) → Takes m within old (Err e) new → Fails s (Program.take (Token.Mark m) within f) old e new
-refused_take s m within f old new stop.Memory a = tt
-refused_take s m within f old new stop.Syntax a = subst (λ z. Runs within_limits s (Program.take (Token.Mark m) within f) old (Outcome.refused Refusal.Syntax z)) a.answer.0 (Runs.take_other a.answer.1)
-refused_take s m within f [] new stop.TooDeep a = absurd (let e = a.answer.2 in (cc))
-refused_take s m within f (q ∷ qs) new stop.TooDeep a =
-    let is : q.token ≡ Token.Mark m = (let e = a.answer.2 in (cc)) in
-    subst (λ z. Runs within_limits s (Program.take (Token.Mark m) within f) (q ∷ qs) (Outcome.refused Refusal.TooDeep z)) a.answer.0
+refused_take : (s : Sort) (c : Token) (within : Bool) (f : At → Program s) (old new : List Placed) (e : Stop) → Takes c within old (Err e) new → Fails s (Program.take c within f) old e new
+refused_take s c within f old new stop.Memory a = tt
+refused_take s c within f old new stop.Syntax a = subst (λ z. Runs within_limits s (Program.take c within f) old (Outcome.refused Refusal.Syntax z)) a.answer.0 (Runs.take_other a.answer.1)
+refused_take s c within f [] new stop.TooDeep a = absurd (let e = a.answer.2 in (cc))
+refused_take s c within f (q ∷ qs) new stop.TooDeep a =
+    let is : q.token ≡ c = (let e = a.answer.2 in (cc)) in
+    subst (λ z. Runs within_limits s (Program.take c within f) (q ∷ qs) (Outcome.refused Refusal.TooDeep z)) a.answer.0
       (subst (λ z. Runs within_limits s (Program.take z within f) (q ∷ qs) (Outcome.refused Refusal.TooDeep (q ∷ qs))) is (Runs.take_deep {c = q.token} {at = q.at} refl a.answer.1))
 
-pub take_failed : {s : Sort} {B : Type 0} {m : Punctuator} {within : Bool} {f : At → Program s} {w : B → Value s} {old new : List Placed} {e : Stop}
-    → Takes m within old (Err e) new → Reads s (Program.take (Token.Mark m) within f) w old (Err e) new
-take_failed {s = s} {m = m} {within = within} {f = f} {old = old} {new = new} {e = e} a = record { answer = refused_take s m within f old new e a }
+pub take_failed : {s : Sort} {B : Type 0} {c : Token} {within : Bool} {f : At → Program s} {w : B → Value s} {old new : List Placed} {e : Stop}
+    → Takes c within old (Err e) new → Reads s (Program.take c within f) w old (Err e) new
+take_failed {s = s} {c = c} {within = within} {f = f} {old = old} {new = new} {e = e} a = record { answer = refused_take s c within f old new e a }
+
+-- what the next token tells
+pub looked : {s : Sort} {A : Type 0} (f : Option Token → Program s) (p : Program s) {v : A → Value s} {old new : List Placed} {res : Result A Stop}
+    → f (first old) ≡ p → Reads s p v old res new → Reads s (Program.look f) v old res new
+looked {s = s} f p {v = v} {old = old} {new = new} {res = res} e n = record { answer = seen f v old new res (subst (λ z. Answers s z v old res new) (sym e) n.answer) }
+
+pub seen_as : {s : Sort} {A : Type 0} (f : Option Token → Program s) (c : Option Token) {v : A → Value s} {old new : List Placed} {res : Result A Stop}
+    → first old ≡ c → Reads s (f c) v old res new → Reads s (Program.look f) v old res new
+seen_as f c e n = looked f (f c) (ap f e) n
+
+pub refused : {s : Sort} {A : Type 0} {v : A → Value s} {old : List Placed} → Reads s (Program.refuse {s = s}) v old (Err stop.Syntax) old
+refused = record { answer = Runs.refuse }
+
+tail_of : {s : Sort} {A : Type 0} (r : Rule s) (v : A → Value s) (old new : List Placed) (res : Result A Stop) → Answers s (body r) v old res new → Answers s (reads r) v old res new
+tail_of r v old new (Ok x) a = Runs.call a Runs.give
+tail_of r v old new (Err stop.Memory) a = tt
+tail_of r v old new (Err stop.Syntax) a = Runs.call_refused a
+tail_of r v old new (Err stop.TooDeep) a = Runs.call_refused a
+
+pub tail : {s : Sort} {A : Type 0} {r : Rule s} {v : A → Value s} {old new : List Placed} {res : Result A Stop} → Reads s (body r) v old res new → Reads s (reads r) v old res new
+tail {r = r} {v = v} {old = old} {new = new} {res = res} a = record { answer = tail_of r v old new res a.answer }
+
+-- the next token is taken, whichever it is
+next_parts : (within : Bool) (old new : List Placed) (at : At) → TakesNext within old (Ok at) new → (c : Token) → first old ≡ Some c → (within ≡ true) × (old ≡ token_at c at ∷ new)
+next_parts within [] new at a c h = absurd (cc)
+next_parts true (t ∷ ts) new at a c h =
+    let k : c ≡ t.token = cc in let i : at ≡ t.at = (let e = a.answer.0 in (cc)) in (refl, rw (k, i, a.answer.1) refl)
+next_parts false (t ∷ ts) new at a c h = absurd (let e = a.answer.0 in (cc))
+
+pub took_next : {s : Sort} {B : Type 0} {c : Token} {within : Bool} {f : At → Program s} {w : B → Value s} {old mid new : List Placed} {at : At} {res : Result B Stop}
+    → first old ≡ Some c → TakesNext within old (Ok at) mid → Reads s (f at) w mid res new → Reads s (Program.take c within f) w old res new
+took_next {s = s} {c = c} {within = within} {f = f} {w = w} {old = old} {mid = mid} {new = new} {at = at} {res = res} h a n =
+    let p = next_parts within old mid at a c h in
+    record { answer = subst (λ z. Answers s (Program.take c within f) w z res new) (sym p.1) (taken c within f w at mid new res p.0 n.answer) }
+
+next_fails : (s : Sort) (c : Token) (within : Bool) (f : At → Program s) (old new : List Placed) (e : Stop) → TakesNext within old (Err e) new → first old ≡ Some c → Fails s (Program.take c within f) old e new
+next_fails s c within f [] new e a h = absurd (cc)
+next_fails s c true f (t ∷ ts) new e a h = absurd (let i = a.answer.0 in (cc))
+next_fails s c false f (t ∷ ts) new e a h =
+    let is : t.token ≡ c = (cc) in
+    let too : stop.TooDeep ≡ e = (let i = a.answer.0 in (cc)) in
+    subst (λ z. Fails s (Program.take c false f) (t ∷ ts) z new) too
+      (subst (λ z. Runs within_limits s (Program.take c false f) (t ∷ ts) (Outcome.refused Refusal.TooDeep z)) (sym a.answer.1)
+      (subst (λ z. Runs within_limits s (Program.take z false f) (t ∷ ts) (Outcome.refused Refusal.TooDeep (t ∷ ts))) is (Runs.take_deep {c = t.token} {at = t.at} refl refl)))
+
+pub next_failed : {s : Sort} {B : Type 0} {c : Token} {within : Bool} {f : At → Program s} {w : B → Value s} {old new : List Placed} {e : Stop}
+    → first old ≡ Some c → TakesNext within old (Err e) new → Reads s (Program.take c within f) w old (Err e) new
+next_failed {s = s} {c = c} {within = within} {f = f} {old = old} {new = new} {e = e} h a = record { answer = next_fails s c within f old new e a h }
+
+saw : (c : Token) (ts : List Placed) (b : Bool) → b ≡ true → Sees c ts b → first ts ≡ Some c
+saw c ts true e a = a.answer
+saw c ts false e a = absurd (false≢true e)
+
+saw_not : (c : Token) (ts : List Placed) (b : Bool) → b ≡ false → Sees c ts b → first ts ≡ Some c → ⊥
+saw_not c ts false e a = a.answer
+saw_not c ts true e a = absurd (false≢true (sym e))
+
+-- what a look at the next token tells
+pub saw_yes : {c : Token} {ts : List Placed} {b : Bool} → Sees c ts b → b ≡ true → first ts ≡ Some c
+saw_yes {c = c} {ts = ts} {b = b} a e = saw c ts b e a
+
+pub saw_no : {c : Token} {ts : List Placed} {b : Bool} → Sees c ts b → b ≡ false → first ts ≡ Some c → ⊥
+saw_no {c = c} {ts = ts} {b = b} a e = saw_not c ts b e a
 
 pub ruleset steps = (called, call_failed, took, take_failed, gave, no_memory, when_yes, when_no)
+
+shorter : (within : Bool) (old new : List Placed) (at : At) → TakesNext within old (Ok at) new → length new < length old
+shorter within [] new at a = absurd (let e = a.answer.0 in (cc))
+shorter true (t ∷ ts) new at a = let n = a.answer.1 in omega (arith, ap length n)
+shorter false (t ∷ ts) new at a = absurd (let e = a.answer.0 in (cc))
+
+-- fewer tokens are left
+pub next_shorter : {within : Bool} {old new : List Placed} {at : At} → TakesNext within old (Ok at) new → length new < length old
+next_shorter {within = within} {old = old} {new = new} {at = at} a = shorter within old new at a

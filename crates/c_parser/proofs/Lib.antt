@@ -13,3 +13,6 @@ pub mod CompleteDeclarations
 pub mod CompleteStatements
 pub mod Laws
 pub mod CodeSteps
+pub mod ListSteps
+pub mod Next
+pub mod Heights

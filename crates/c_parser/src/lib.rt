@@ -3,6 +3,9 @@
 ghost use Rattle.c_parser.specs.Laws.{HasOneUnit};
 
 mod cursor;
+mod leaf;
+mod measured;
+mod operator;
 mod specifier;
 
 /// Tokens derive one tree of a file, whatever the limits on nesting.
