@@ -12,7 +12,7 @@ use Rattle.c_parser.specs.Programs.{Sort, Value, Rule, Program, Outcome}
 use Rattle.c_parser.specs.Tests.{first}
 use Rattle.c_parser.specs.Bodies.{body, when, reads}
 use Rattle.c_parser.specs.Runs.{Runs, token_at}
-use Rattle.c_parser.specs.Reads.{Reads, Takes, TakesNext, Sees, Answers, Fails}
+use Rattle.c_parser.specs.Reads.{Reads, Leads, Led, Takes, TakesNext, Sees, Answers, Fails}
 
 after_call : {s t : Sort} {A B : Type 0} (r : Rule s) (v : A → Value s) (f : Value s → Program t) (w : B → Value t) (old mid new : List Placed) (x : A) (res : Result B Stop)
     → Runs within_limits s (body r) old (Outcome.read (v x) mid) → Answers t (f (v x)) w mid res new → Answers t (Program.call r f) w old res new
@@ -152,3 +152,63 @@ shorter false (t ∷ ts) new at a = absurd (let e = a.answer.0 in (cc))
 -- fewer tokens are left
 pub next_shorter : {within : Bool} {old new : List Placed} {at : At} → TakesNext within old (Ok at) new → length new < length old
 next_shorter {within = within} {old = old} {new = new} {at = at} a = shorter within old new at a
+
+led_taken : (s : Sort) {A : Type 0} (c : Token) (within : Bool) (f : At → Program s) (q : A → Program s) (view : A → Value s) (old mid new : List Placed) (at : At) (res : Result A Stop)
+    → first old ≡ Some c → TakesNext within old (Ok at) mid → Led s (f at) q view mid res new → Led s (Program.take c within f) q view old res new
+led_taken s c within f q view old mid new at (Ok x) h a l = λ result end n. took_next h a (l result end n)
+led_taken s c within f q view old mid new at (Err e) h a l = (took_next {w = view} {res = Err e} h a (record { answer = l })).answer
+
+led_refused : (s : Sort) {A : Type 0} (c : Token) (within : Bool) (f : At → Program s) (q : A → Program s) (view : A → Value s) (old new : List Placed) (e : Stop)
+    → first old ≡ Some c → TakesNext within old (Err e) new → Led s (Program.take c within f) q view old (Err e) new
+led_refused s c within f q view old new e h a = next_fails s c within f old new e a h
+
+led_looked : (s : Sort) {A : Type 0} (f : Option Token → Program s) (p : Program s) (q : A → Program s) (view : A → Value s) (old new : List Placed) (res : Result A Stop)
+    → f (first old) ≡ p → Led s p q view old res new → Led s (Program.look f) q view old res new
+led_looked s f p q view old new (Ok x) e l = λ result end n. looked f p e (l result end n)
+led_looked s f p q view old new (Err r) e l = (looked f p {v = view} {res = Err r} e (record { answer = l })).answer
+
+-- the same steps, where what comes next is left open
+pub leads_seen : {s : Sort} {A : Type 0} (f : Option Token → Program s) (c : Option Token) {q : A → Program s} {view : A → Value s} {old new : List Placed} {res : Result A Stop}
+    → first old ≡ c → Leads s (f c) q view old res new → Leads s (Program.look f) q view old res new
+leads_seen {s = s} f c {q = q} {view = view} {old = old} {new = new} {res = res} e l = record { answer = led_looked s f (f c) q view old new res (ap f e) l.answer }
+
+pub leads_took : {s : Sort} {A : Type 0} {c : Token} {within : Bool} {f : At → Program s} {q : A → Program s} {view : A → Value s} {old mid new : List Placed} {at : At} {res : Result A Stop}
+    → first old ≡ Some c → TakesNext within old (Ok at) mid → Leads s (f at) q view mid res new → Leads s (Program.take c within f) q view old res new
+leads_took {s = s} {c = c} {within = within} {f = f} {q = q} {view = view} {old = old} {mid = mid} {new = new} {at = at} {res = res} h a l =
+    record { answer = led_taken s c within f q view old mid new at res h a l.answer }
+
+pub leads_take_failed : {s : Sort} {A : Type 0} {c : Token} {within : Bool} {f : At → Program s} {q : A → Program s} {view : A → Value s} {old new : List Placed} {e : Stop}
+    → first old ≡ Some c → TakesNext within old (Err e) new → Leads s (Program.take c within f) q view old (Err e) new
+leads_take_failed {s = s} {c = c} {within = within} {f = f} {q = q} {view = view} {old = old} {new = new} {e = e} h a = record { answer = led_refused s c within f q view old new e h a }
+
+led_mark : (s : Sort) {A : Type 0} (c : Token) (within : Bool) (f : At → Program s) (q : A → Program s) (view : A → Value s) (old mid new : List Placed) (at : At) (res : Result A Stop)
+    → Takes c within old (Ok at) mid → Led s (f at) q view mid res new → Led s (Program.take c within f) q view old res new
+led_mark s c within f q view old mid new at (Ok x) a l = λ result end n. took a (l result end n)
+led_mark s c within f q view old mid new at (Err e) a l = (took {w = view} {res = Err e} a (record { answer = l })).answer
+
+pub leads_took_mark : {s : Sort} {A : Type 0} {c : Token} {within : Bool} {f : At → Program s} {q : A → Program s} {view : A → Value s} {old mid new : List Placed} {at : At} {res : Result A Stop}
+    → Takes c within old (Ok at) mid → Leads s (f at) q view mid res new → Leads s (Program.take c within f) q view old res new
+leads_took_mark {s = s} {c = c} {within = within} {f = f} {q = q} {view = view} {old = old} {mid = mid} {new = new} {at = at} {res = res} a l =
+    record { answer = led_mark s c within f q view old mid new at res a l.answer }
+
+pub leads_mark_failed : {s : Sort} {A : Type 0} {c : Token} {within : Bool} {f : At → Program s} {q : A → Program s} {view : A → Value s} {old new : List Placed} {e : Stop}
+    → Takes c within old (Err e) new → Leads s (Program.take c within f) q view old (Err e) new
+leads_mark_failed {s = s} {A = A} {c = c} {within = within} {f = f} {view = view} {old = old} {new = new} {e = e} a = record { answer = refused_take s c within f old new e a }
+
+led_called : {s t : Sort} {A B : Type 0} (r : Rule s) (v : A → Value s) (f : Value s → Program t) (q : B → Program t) (w : B → Value t) (old mid new : List Placed) (x : A) (res : Result B Stop)
+    → Reads s (body r) v old (Ok x) mid → Led t (f (v x)) q w mid res new → Led t (Program.call r f) q w old res new
+led_called r v f q w old mid new x (Ok y) a l = λ result end n. called a (l result end n)
+led_called r v f q w old mid new x (Err e) a l = (called {w = w} {res = Err e} a (record { answer = l })).answer
+
+pub leads_called : {s t : Sort} {A B : Type 0} {r : Rule s} {v : A → Value s} {f : Value s → Program t} {q : B → Program t} {w : B → Value t} {old mid new : List Placed} {x : A} {res : Result B Stop}
+    → Reads s (body r) v old (Ok x) mid → Leads t (f (v x)) q w mid res new → Leads t (Program.call r f) q w old res new
+leads_called {r = r} {v = v} {f = f} {q = q} {w = w} {old = old} {mid = mid} {new = new} {x = x} {res = res} a l = record { answer = led_called r v f q w old mid new x res a l.answer }
+
+pub leads_call_failed : {s t : Sort} {A B : Type 0} {r : Rule s} {v : A → Value s} {f : Value s → Program t} {q : B → Program t} {w : B → Value t} {old new : List Placed} {e : Stop}
+    → Reads s (body r) v old (Err e) new → Leads t (Program.call r f) q w old (Err e) new
+leads_call_failed {r = r} {f = f} {old = old} {new = new} {e = e} a = record { answer = failed r f old new e a.answer }
+
+-- the rule that goes on, on the tree that was made
+pub leads_on : {s : Sort} {A : Type 0} (h : Value s → Rule s) {view : A → Value s} {old : List Placed} {x : A} {y : Value s}
+    → view x ≡ y → Leads s (reads (h y)) (λ z. body (h (view z))) view old (Ok x) old
+leads_on {s = s} h {view = view} {old = old} e = record { answer = λ result new n. subst (λ z. Reads s (reads (h z)) view old result new) e (tail n) }

@@ -4,6 +4,7 @@ use Rattle.std.specs.Prelude.{◌≡◌, ◌==◌, if◌then◌else◌, ℕ, Boo
 use Rattle.c_words.specs.declared.place.At.{At}
 use Rattle.c_words.specs.declared.words.Reserved.{Reserved}
 use Rattle.c_words.specs.declared.words.Punctuator.{Punctuator}
+use Rattle.c_words.specs.declared.words.Punctuator.TheVariants as m
 use Rattle.c_words.specs.declared.operators.UnaryOperator.{UnaryOperator}
 use Rattle.c_words.specs.declared.operators.StepOperator.{StepOperator}
 use Rattle.c_words.specs.declared.operators.BinaryOperator.{BinaryOperator}
@@ -75,6 +76,14 @@ abbrev pub binary_of : ℕ → Option Token → Option BinaryOperator
 binary_of k (Some (Token.Mark p)) = at_level k (binary_operator p)
 binary_of k _ = None
 
+-- what follows an operand and has no expression in it
+abbrev pub begins_short_suffix : Option Token → Bool
+begins_short_suffix (Some (Token.Mark m.Dot)) = true
+begins_short_suffix (Some (Token.Mark m.Arrow)) = true
+begins_short_suffix (Some (Token.Mark m.PlusPlus)) = true
+begins_short_suffix (Some (Token.Mark m.MinusMinus)) = true
+begins_short_suffix _ = false
+
 -- whether this token comes next
 abbrev pub Saw : Token → List Placed → Bool → Type 0
 Saw c ts true = first ts ≡ Some c
@@ -109,3 +118,11 @@ Adds s p view items front old (Err e) new = Fails s p old e new
 
 pub record GoesOn (s : Sort) {A B : Type 0} (p : Program s) (view : List B → Value s) (items : A → List B) (front : List B) (old : List Placed) (result : Result A Stop) (new : List Placed) : Type 0 where
   pub answer : Adds s p view items front old result new
+
+-- The answer leads from a program to another that depends on it: whatever that one answers, the first does.
+abbrev pub Led : (s : Sort) {A : Type 0} → Program s → (A → Program s) → (A → Value s) → List Placed → Result A Stop → List Placed → Type 0
+Led s {A = A} p q view old (Ok x) mid = (result : Result A Stop) (new : List Placed) → Reads s (q x) view mid result new → Reads s p view old result new
+Led s p q view old (Err e) new = Fails s p old e new
+
+pub record Leads (s : Sort) {A : Type 0} (p : Program s) (q : A → Program s) (view : A → Value s) (old : List Placed) (result : Result A Stop) (new : List Placed) : Type 0 where
+  pub answer : Led s p q view old result new

@@ -6,6 +6,7 @@ mod cursor;
 mod leaf;
 mod measured;
 mod operator;
+mod postfix;
 mod specifier;
 
 /// Tokens derive one tree of a file, whatever the limits on nesting.
