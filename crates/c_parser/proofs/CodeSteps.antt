@@ -212,3 +212,8 @@ leads_call_failed {r = r} {f = f} {old = old} {new = new} {e = e} a = record { a
 pub leads_on : {s : Sort} {A : Type 0} (h : Value s → Rule s) {view : A → Value s} {old : List Placed} {x : A} {y : Value s}
     → view x ≡ y → Leads s (reads (h y)) (λ z. body (h (view z))) view old (Ok x) old
 leads_on {s = s} h {view = view} {old = old} e = record { answer = λ result new n. subst (λ z. Reads s (reads (h z)) view old result new) e (tail n) }
+
+-- the rule that goes on, where the code has the tree and the program says what it is
+pub tail_as : (s : Sort) {t : Sort} {A : Type 0} (h : Value s → Rule t) {view : A → Value t} {old new : List Placed} {x y : Value s} {res : Result A Stop}
+    → x ≡ y → Reads t (body (h x)) view old res new → Reads t (reads (h y)) view old res new
+tail_as s {t = t} h {view = view} {old = old} {new = new} {res = res} e n = subst (λ z. Reads t (reads (h z)) view old res new) e (tail n)

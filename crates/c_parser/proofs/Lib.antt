@@ -14,5 +14,6 @@ pub mod CompleteStatements
 pub mod Laws
 pub mod CodeSteps
 pub mod ListSteps
+pub mod Choices
 pub mod Next
 pub mod Heights
