@@ -1,5 +1,5 @@
 -- The elements between quotes are what is read as them.
-use Rattle.std.proofs.Common.{◌≡◌, ◌≢◌, ◌⊎◌, inl, inr, ℕ, zero, suc, ◌+◌, ◌-◌, ◌<◌, ◌≤◌, eqb, Bool, true, false, ◌||◌, cond, List, [], ◌∷◌, ◌++◌, length, take, drop, Option, Some, None, Result, Ok, Err, refl, sym, ap, subst, ◌∙◌, append_assoc, append-nil, length-append, length-take, take-append-drop, take-take, take_at, arith, eqb-true, eq-eqb, ne_eqb}
+use Rattle.std.proofs.Common.{◌≡◌, ◌≢◌, ◌⊎◌, inl, inr, ℕ, zero, suc, ◌+◌, ◌-◌, ◌<◌, ◌≤◌, eqb, Bool, true, false, ◌||◌, cond, List, [], ◌∷◌, ◌++◌, length, take, drop, Option, Some, None, Result, Ok, Err, refl, sym, ap, subst, ◌∙◌, append_assoc, append-nil, length-append, length-take, length-drop, take-append-drop, take-take, take_at, arith, eqb-true, eq-eqb, ne_eqb}
 use Rattle.std.proofs.lemmas.Bool.{eqb-false, cases_lt}
 use Rattle.std.proofs.lemmas.Bool.Decides.{nat_tests}
 use Rattle.std.proofs.lemmas.List.{drop-take}
@@ -64,6 +64,14 @@ pub none_moves : (quote : ℕ) (bytes : List ℕ) → element_at quote bytes ≡
 unfolding element_at
 none_moves quote [] e = absurd cc
 none_moves quote (b ∷ bs) e = omega arith
+
+-- one element, and then the closing quote
+pub one_closes : (quote : ℕ) (bytes : List ℕ) (v n : ℕ) → 0 < length bytes → element_at quote (drop 1 bytes) ≡ Ok (Some (v, n)) → 0 < n → n ≤ length (drop 1 bytes)
+    → element_at quote (drop n (drop 1 bytes)) ≡ Ok None → quoted_at quote bytes ≡ Ok (v ∷ [], n + 2)
+one_closes quote bytes v n some e h l close =
+    let whole = loop_goes quote (elements quote (drop 1 bytes)) [] (v ∷ []) (drop 1 bytes) (drop n (drop 1 bytes)) v n e h l refl refl refl in
+    let long : length bytes - length (drop n (drop 1 bytes)) + 1 ≡ n + 2 = omega (arith, some, l, length-drop n (drop 1 bytes), length-drop 1 bytes) in
+    loop_closes quote bytes (v ∷ []) (drop n (drop 1 bytes)) whole close ∙ ap (λ k. Ok (v ∷ [], k)) long
 
 -- ---- escapes
 

@@ -6,7 +6,7 @@ ghost use Rattle.c_lexer.specs.Gives.{Gives, found_of};
 use crate::bytes::{Class, byte, is_blank, is_digit, is_letter, run_len};
 use crate::fault::{Fault, PieceError};
 use crate::number::number_of;
-use crate::quote::quoted_at;
+use crate::quote::{quoted_at, single_at};
 use crate::space::{block_comment_len, directive_len};
 use crate::token::TokenKind;
 use crate::words::{identifier, mark_at};
@@ -62,6 +62,9 @@ fn character_at(alloc: Global, text: &[u8]) -> Result<Piece, PieceError>
     ensures value { Gives found_of result (reading.character_at text.now) }
     ensures within { IfOk result (λ p. p.len ≤ length text.now) }
 {
+    if let Some((value, len)) = single_at(b'\'', text) {
+        return Ok(Piece::of(TokenKind::Character(value), len));
+    }
     let (bytes, len) = quoted_at(alloc, b'\'', text)?;
     match bytes.as_slice() {
         [value] => Ok(Piece::of(TokenKind::Character(*value), len)),

@@ -1,5 +1,5 @@
 //! Character constants and string literals (C11 6.4.4.4, 6.4.5).
-ghost use Rattle.std.specs.Prelude.{◌≡◌, ◌≤◌, ◌<◌, ◌+◌, length, IfOk, IfSome};
+ghost use Rattle.std.specs.Prelude.{◌≡◌, ◌≤◌, ◌<◌, ◌+◌, [], ◌∷◌, Ok, length, IfOk, IfSome};
 ghost use Rattle.c_lexer.specs.Reading as reading;
 ghost use Rattle.c_lexer.specs.Gives.{Gives};
 
@@ -94,6 +94,30 @@ fn element_at(quote: u8, text: &[u8]) -> Result<Option<(u8, usize)>, Fault>
         escape_at(rest)
     } else {
         Ok(Some((*b, 1)))
+    }
+}
+
+/// The value of the one element between two quotes, and how many bytes there are with the quotes; nothing where there
+/// is another number of elements, or a fault. The text begins with the first quote. This takes no memory.
+pub fn single_at(quote: u8, text: &[u8]) -> Option<(u8, usize)>
+    requires { 0 < length text.now }
+    ensures value { IfSome result (λ x. reading.quoted_at quote text.now ≡ Ok (x.0 ∷ [], x.1)) }
+    ensures within { IfSome result (λ x. (0 < x.1) × (x.1 ≤ length text.now)) }
+{
+    let rest = &text[1..];
+    let Ok(first) = element_at(quote, rest) else {
+        return None;
+    };
+    let Some((value, len)) = first else {
+        return None;
+    };
+    let behind = &rest[len..];
+    let Ok(second) = element_at(quote, behind) else {
+        return None;
+    };
+    match second {
+        None => Some((value, len + 2)),
+        Some(_) => None,
     }
 }
 
