@@ -1,6 +1,6 @@
 -- Which way a rule goes, by what the code asks of the next token.
-use Rattle.std.proofs.Common.{◌≡◌, ℕ, zero, suc, ◌<◌, ◌-◌, ◌==◌, Bool, true, false, cond, List, [], ◌∷◌, Option, Some, None, refl, sym, ap, subst, ◌∙◌, arith}
-use Rattle.c_words.specs.Tokens.{Token, Placed}
+use Rattle.std.proofs.Common.{◌≡◌, ℕ, zero, suc, ◌<◌, ◌-◌, ◌==◌, Bool, true, false, cond, Option, Some, None, refl, sym, ap, subst, ◌∙◌, arith}
+use Rattle.c_words.specs.Tokens.{Token}
 use Rattle.c_words.specs.declared.place.At.{At}
 use Rattle.c_words.specs.declared.words.Reserved.TheVariants as w
 use Rattle.c_words.specs.declared.words.Punctuator.{Punctuator}
@@ -10,8 +10,8 @@ use Rattle.c_words.specs.declared.operators.StepOperator.{StepOperator}
 use Rattle.c_words.specs.declared.operators.BinaryOperator.{BinaryOperator}
 use Rattle.c_words.specs.declared.operators.AssignOperator.{AssignOperator}
 use Rattle.c_tree.specs.Syntax.{ExpressionTree}
-use Rattle.c_tree.specs.GrammarTokens.{unary_operator, step_operator, binary_operator, assign_operator}
-use Rattle.c_parser.specs.Programs.{Sort, Rule, Program}
+use Rattle.c_tree.specs.GrammarTokens.{unary_operator, binary_operator}
+use Rattle.c_parser.specs.Programs.{Rule, Program}
 use Rattle.c_parser.specs.Tests.{is_comma, is_question, is_close_paren, is_open_bracket, with_mark, assigns, at_strength, operator, opens}
 use Rattle.c_parser.specs.Bodies.{body, reads, cast_by, sizeof_by, unary_by, unary_mark, postfix_by}
 use Rattle.c_parser.specs.Reads.{assign_of, step_of, unary_of, binary_of, at_level}

@@ -1,9 +1,8 @@
 -- What a function has read so far, and what it goes on to read.
-use Rattle.std.proofs.Common.{◌≡◌, ℕ, ◌<◌, length, arith, Bool, true, false, cond, List, [], ◌∷◌, Option, Some, None, Result, Ok, Err, refl, sym, ap, subst}
+use Rattle.std.proofs.Common.{◌≡◌, ◌<◌, length, arith, Bool, true, false, cond, List, [], ◌∷◌, Option, Some, Result, Ok, Err, refl, sym, ap, subst}
 use Rattle.std.proofs.lemmas.Bool.{false≢true}
 use Rattle.c_words.specs.Tokens.{Token, Placed}
 use Rattle.c_words.specs.declared.place.At.{At}
-use Rattle.c_words.specs.declared.words.Punctuator.{Punctuator}
 use Rattle.c_tree.specs.GrammarLimits.{within_limits}
 use Rattle.c_tree.specs.GrammarRefusals.{Refusal}
 use Rattle.c_parser.specs.declared.cursor.Stop.{Stop}
@@ -73,7 +72,7 @@ refused_take s c within f [] new stop.TooDeep a = absurd (let e = a.answer.2 in 
 refused_take s c within f (q ∷ qs) new stop.TooDeep a =
     let is : q.token ≡ c = (let e = a.answer.2 in (cc)) in
     subst (λ z. Runs within_limits s (Program.take c within f) (q ∷ qs) (Outcome.refused Refusal.TooDeep z)) a.answer.0
-      (subst (λ z. Runs within_limits s (Program.take z within f) (q ∷ qs) (Outcome.refused Refusal.TooDeep (q ∷ qs))) is (Runs.take_deep {c = q.token} {at = q.at} refl a.answer.1))
+    (subst (λ z. Runs within_limits s (Program.take z within f) (q ∷ qs) (Outcome.refused Refusal.TooDeep (q ∷ qs))) is (Runs.take_deep {c = q.token} {at = q.at} refl a.answer.1))
 
 pub take_failed : {s : Sort} {B : Type 0} {c : Token} {within : Bool} {f : At → Program s} {w : B → Value s} {old new : List Placed} {e : Stop}
     → Takes c within old (Err e) new → Reads s (Program.take c within f) w old (Err e) new
@@ -120,8 +119,8 @@ next_fails s c false f (t ∷ ts) new e a h =
     let is : t.token ≡ c = (cc) in
     let too : stop.TooDeep ≡ e = (let i = a.answer.0 in (cc)) in
     subst (λ z. Fails s (Program.take c false f) (t ∷ ts) z new) too
-      (subst (λ z. Runs within_limits s (Program.take c false f) (t ∷ ts) (Outcome.refused Refusal.TooDeep z)) (sym a.answer.1)
-      (subst (λ z. Runs within_limits s (Program.take z false f) (t ∷ ts) (Outcome.refused Refusal.TooDeep (t ∷ ts))) is (Runs.take_deep {c = t.token} {at = t.at} refl refl)))
+    (subst (λ z. Runs within_limits s (Program.take c false f) (t ∷ ts) (Outcome.refused Refusal.TooDeep z)) (sym a.answer.1)
+    (subst (λ z. Runs within_limits s (Program.take z false f) (t ∷ ts) (Outcome.refused Refusal.TooDeep (t ∷ ts))) is (Runs.take_deep {c = t.token} {at = t.at} refl refl)))
 
 pub next_failed : {s : Sort} {B : Type 0} {c : Token} {within : Bool} {f : At → Program s} {w : B → Value s} {old new : List Placed} {e : Stop}
     → first old ≡ Some c → TakesNext within old (Err e) new → Reads s (Program.take c within f) w old (Err e) new

@@ -1,9 +1,9 @@
 -- The greatest height among arguments.
-use Rattle.std.proofs.Common.{◌≡◌, ℕ, max, min, List, [], ◌∷◌, ◌++◌, map, refl, sym, ap, ◌∙◌, arith}
+use Rattle.std.proofs.Common.{◌≡◌, ℕ, max, min, List, [], ◌∷◌, ◌++◌, map, arith}
 use Rattle.c_tree.specs.declared.syntax.expressions.Expression.{Expression}
-use Rattle.c_tree.specs.Syntax.{ExpressionTree, ExpressionTrees}
+use Rattle.c_tree.specs.Syntax.{ExpressionTree}
 use Rattle.c_tree.specs.SyntaxHeights.{height, highest}
-use Rattle.c_tree.specs.SyntaxViews.{expression_tree, expression_trees, listed}
+use Rattle.c_tree.specs.SyntaxViews.{listed}
 
 pub added : (f : Expression → ExpressionTree) (xs : List Expression) (e : Expression) → highest (listed (map f (xs ++ (e ∷ [])))) ≡ max (highest (listed (map f xs))) (height (f e))
 added f [] e = omega arith

@@ -1,15 +1,12 @@
 -- Loops that read a list: what is there goes on by what a program reads.
-use Rattle.std.proofs.Common.{◌≡◌, ℕ, Bool, true, List, [], ◌∷◌, ◌++◌, Option, Some, None, Result, Ok, Err, Vec, Global, refl, sym, ap, subst, ◌∙◌, append_assoc}
+use Rattle.std.proofs.Common.{◌≡◌, ℕ, true, List, [], ◌∷◌, ◌++◌, Some, Result, Ok, Err, refl, sym, ap, ◌∙◌, append_assoc}
 use Rattle.std.proofs.lemmas.List.{append-nil}
 use Rattle.c_words.specs.Tokens.{Token, Placed}
 use Rattle.c_words.specs.declared.place.At.{At}
-use Rattle.c_tree.specs.GrammarLimits.{within_limits}
 use Rattle.c_parser.specs.declared.cursor.Stop.{Stop}
-use Rattle.c_parser.specs.declared.cursor.Stop.TheVariants as stop
-use Rattle.c_parser.specs.Programs.{Sort, Value, Rule, Program, Outcome}
+use Rattle.c_parser.specs.Programs.{Sort, Value, Rule, Program}
 use Rattle.c_parser.specs.Tests.{first}
 use Rattle.c_parser.specs.Bodies.{body, strings_by}
-use Rattle.c_parser.specs.Runs.{Runs}
 use Rattle.c_parser.specs.Reads.{Reads, GoesOn, TakesNext}
 use Rattle.c_parser.proofs.CodeSteps.{looked, seen_as, took_next, called, call_failed, gave}
 

@@ -1,15 +1,14 @@
 -- The next token, by what the cursor tells of it.
-use Rattle.std.proofs.Common.{◌≡◌, ℕ, zero, suc, ◌≤◌, ◌<◌, nat_eq, length, arith, Bool, true, false, List, [], ◌∷◌, Option, Some, None, refl}
+use Rattle.std.proofs.Common.{◌≡◌, ℕ, zero, suc, ◌≤◌, ◌<◌, nat_eq, length, arith, Bool, false, List, [], ◌∷◌, Option, Some, None, refl}
 use Rattle.std.proofs.lemmas.Bool.Decides.{nat_tests}
-use Rattle.c_words.specs.Tokens.{Token, Placed}
+use Rattle.c_words.specs.Tokens.{Token}
 use Rattle.c_words.specs.declared.words.Reserved.{Reserved}
 use Rattle.c_words.specs.declared.words.Reserved.TheVariants as w
-use Rattle.c_words.specs.declared.words.Punctuator.{Punctuator}
 use Rattle.c_words.specs.declared.words.Punctuator.TheVariants as m
 use Rattle.c_words.specs.declared.place.At.{At}
 use Rattle.c_tree.specs.declared.syntax.specifiers.Specifier.TheVariants as s
-use Rattle.c_parser.specs.Programs.{Sort, Program}
-use Rattle.c_parser.specs.Tests.{is_int, is_comma, is_semicolon, is_question, is_equal, is_open_paren, is_close_paren, is_open_bracket, is_close_bracket, is_open_brace, is_close_brace}
+use Rattle.c_parser.specs.Programs.{Program}
+use Rattle.c_parser.specs.Tests.{is_int, is_open_paren}
 use Rattle.c_parser.specs.Bodies.{primary_by, identifier_by, strings_by, specifier_by, unsigned_by, is_nothing}
 use Rattle.c_tree.specs.declared.syntax.expressions.Expression.{Expression}
 use Rattle.c_tree.specs.Syntax.{TypeDeclaratorTree}
@@ -127,7 +126,6 @@ no_word (Some (Token.Word w.Signed)) h i j k l o = absurd (k refl)
 no_word (Some (Token.Word w.Unsigned)) h i j k l o = absurd (l refl)
 no_word (Some (Token.Word w.Struct)) h i j k l o = absurd (o refl)
 no_word (Some (Token.Word _)) h i j k l o = refl
-
 
 zero_not : (n : ℕ) → nat_eq (suc n) 0 ≡ false
 zero_not n = grind (arith, nat_tests)

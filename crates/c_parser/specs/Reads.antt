@@ -15,7 +15,7 @@ use Rattle.c_tree.specs.GrammarLimits.{within_limits}
 use Rattle.c_tree.specs.GrammarRefusals.{Refusal}
 use Rattle.c_parser.specs.declared.cursor.Stop.{Stop}
 use Rattle.c_parser.specs.declared.cursor.Stop.TheVariants as stop
-use Rattle.c_parser.specs.Programs.{Sort, Value, Rule, Program, Outcome}
+use Rattle.c_parser.specs.Programs.{Sort, Value, Program, Outcome}
 use Rattle.c_parser.specs.Tests.{first}
 use Rattle.c_parser.specs.Runs.{Runs, token_at}
 

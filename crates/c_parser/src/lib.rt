@@ -1,5 +1,6 @@
 //! The parser of C: from tokens to the syntax tree.
 #![tactic(auto)]
+
 ghost use Rattle.c_parser.specs.Laws.{HasOneUnit};
 
 mod cursor;

@@ -72,7 +72,11 @@ impl Measured {
     pub fn number(at: At, value: u32, is_unsigned: bool) -> Measured
         ensures { expression_tree result ≡ ExpressionTree.Number at value is_unsigned }
     {
-        Measured::leaf(Expression::Number { at, value, is_unsigned })
+        Measured::leaf(Expression::Number {
+            at,
+            value,
+            is_unsigned,
+        })
     }
 
     /// A character constant.
@@ -145,7 +149,13 @@ impl Measured {
             ≡ ExpressionTree.Binary at (expression_tree left) operator (expression_tree right)) }
     {
         let height = above(cmp::max(left.height, right.height));
-        let expression = Expression::binary(alloc, at, left.expression, operator, right.expression)?;
+        let expression = Expression::binary(
+            alloc,
+            at,
+            left.expression,
+            operator,
+            right.expression,
+        )?;
         Ok(Measured { expression, height })
     }
 
@@ -295,7 +305,13 @@ impl Measured {
             ≡ ExpressionTree.Conditional at (expression_tree condition) (expression_tree then) (expression_tree otherwise)) }
     {
         let height = above(cmp::max(condition.height, cmp::max(then.height, otherwise.height)));
-        let expression = Expression::conditional(alloc, at, condition.expression, then.expression, otherwise.expression)?;
+        let expression = Expression::conditional(
+            alloc,
+            at,
+            condition.expression,
+            then.expression,
+            otherwise.expression,
+        )?;
         Ok(Measured { expression, height })
     }
 
@@ -311,7 +327,13 @@ impl Measured {
             ≡ ExpressionTree.Assign at (expression_tree left) operator (expression_tree right)) }
     {
         let height = above(cmp::max(left.height, right.height));
-        let expression = Expression::assign(alloc, at, left.expression, operator, right.expression)?;
+        let expression = Expression::assign(
+            alloc,
+            at,
+            left.expression,
+            operator,
+            right.expression,
+        )?;
         Ok(Measured { expression, height })
     }
 

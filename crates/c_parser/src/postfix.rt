@@ -15,11 +15,7 @@ use c_words::operators::StepOperator;
 use std::alloc::Global;
 
 /// An operand with `.` and a member behind it (C11 6.5.2.3).
-pub fn member(
-    alloc: Global,
-    cursor: &mut Cursor<'_>,
-    operand: Measured,
-) -> Result<Measured, Stop>
+pub fn member(alloc: Global, cursor: &mut Cursor<'_>, operand: Measured) -> Result<Measured, Stop>
     requires { first cursor.now ≡ Some (tokens.Token.Mark marks.Dot) }
     ensures { (depth : ℕ) → Leads Sort.expression (body (Rule.postfix_rest depth (expression_tree operand))) (λ e. body (Rule.postfix_rest depth (expression_tree e))) expression_tree cursor.old result cursor.new }
 {
@@ -29,11 +25,7 @@ pub fn member(
 }
 
 /// An operand with `->` and a member behind it (C11 6.5.2.3).
-pub fn arrow(
-    alloc: Global,
-    cursor: &mut Cursor<'_>,
-    operand: Measured,
-) -> Result<Measured, Stop>
+pub fn arrow(alloc: Global, cursor: &mut Cursor<'_>, operand: Measured) -> Result<Measured, Stop>
     requires { first cursor.now ≡ Some (tokens.Token.Mark marks.Arrow) }
     ensures { (depth : ℕ) → Leads Sort.expression (body (Rule.postfix_rest depth (expression_tree operand))) (λ e. body (Rule.postfix_rest depth (expression_tree e))) expression_tree cursor.old result cursor.new }
 {

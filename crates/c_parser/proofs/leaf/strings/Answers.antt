@@ -1,4 +1,4 @@
-use Rattle.std.proofs.Common.{refl, sym, ◌∙◌}
+use Rattle.std.proofs.Common.{sym, ◌∙◌}
 use Rattle.std.proofs.lemmas.Result.{err_from_is_err_and}
 use Rattle.c_parser.proofs.CodeSteps.{next_shorter}
 use Rattle.c_parser.proofs.ListSteps.{strings_more, strings_end}

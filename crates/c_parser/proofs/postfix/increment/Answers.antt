@@ -5,7 +5,7 @@ use Rattle.c_tree.specs.SyntaxViews.{expression_tree}
 use Rattle.std.proofs.lemmas.Result.{err_from_is_err_and}
 use Rattle.c_parser.specs.Programs.{Rule}
 use Rattle.c_parser.specs.Bodies.{postfix_by}
-use Rattle.c_parser.proofs.CodeSteps.{leads_seen, leads_took, leads_take_failed, leads_called, leads_call_failed, leads_on}
+use Rattle.c_parser.proofs.CodeSteps.{leads_seen, leads_took, leads_take_failed, leads_on}
 use Rattle.c_parser.proofs.postfix.increment.Goals as goal
 
 pub returns-in_err-at : goal.returns-in_err-at

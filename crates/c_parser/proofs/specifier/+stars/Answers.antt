@@ -1,4 +1,4 @@
-use Rattle.std.proofs.Common.{◌≡◌, ℕ, ◌+◌, ◌≤◌, add-one, arith, refl, sym, ◌∙◌}
+use Rattle.std.proofs.Common.{add-one, arith, refl, sym, ◌∙◌}
 use Rattle.std.proofs.lemmas.Result.{err_from_is_err_and}
 use Rattle.c_parser.specs.Tests.{is_star}
 use Rattle.c_parser.proofs.CodeSteps.{when_yes, when_no, took, take_failed, called, call_failed, gave}

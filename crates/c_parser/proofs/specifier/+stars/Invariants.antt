@@ -1,4 +1,4 @@
-use Rattle.std.proofs.Common.{◌-◌, ℕ}
+use Rattle.std.proofs.Common.{◌-◌}
 use Rattle.c_parser.proofs.specifier.+stars.Given as goal
 
 abbrev pub decreases-stars : goal.decreases-stars

@@ -1,4 +1,4 @@
-use Rattle.std.proofs.Common.{sym, ap, ◌≤◌, ◌<◌, length, subst}
+use Rattle.std.proofs.Common.{◌≤◌, ◌<◌, length}
 use Rattle.c_tree.proofs.SyntaxViews.{expression_views}
 use Rattle.c_parser.proofs.Next.{no_sizes, some_sizes}
 use Rattle.c_parser.proofs.specifier.is_nothing.Goals as goal
