@@ -12,3 +12,8 @@ pub mod CompleteExpressions
 pub mod CompleteDeclarations
 pub mod CompleteStatements
 pub mod Laws
+pub mod CodeSteps
+pub mod ListSteps
+pub mod Choices
+pub mod Next
+pub mod Heights

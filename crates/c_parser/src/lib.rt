@@ -3,6 +3,13 @@
 
 ghost use Rattle.c_parser.specs.Laws.{HasOneUnit};
 
+mod cursor;
+mod leaf;
+mod measured;
+mod operator;
+mod postfix;
+mod specifier;
+
 /// Tokens derive one tree of a file, whatever the limits on nesting.
 pub fn one_unit()
     ensures { HasOneUnit }

@@ -1,0 +1,10 @@
+use Rattle.std.proofs.Common.{rules, arith}
+use Rattle.std.proofs.lemmas.Grind.{common_steps}
+use Rattle.c_tree.specs.SyntaxViews.{expression_tree}
+use Rattle.c_parser.proofs.Heights.{added}
+use Rattle.c_parser.proofs.measured.Arguments.push.Goals as goal
+
+pub invariant_of-self-2 : goal.invariant_of-self-2
+invariant_of-self-2 c =
+    let h = added expression_tree c.self.inside.expressions.items c.argument.inside.expression in
+    rw (c.in_ok-push.ensures.items, h) (first_of (search rules, grind (arith, common_steps)))

@@ -1,0 +1,240 @@
+//! The tokens that are left, and why reading stops.
+ghost use Rattle.std.specs.Prelude.{◌≡◌, true, length, option_map, IfOk};
+ghost use Rattle.c_words.specs.Tokens as tokens;
+ghost use Rattle.c_lexer.specs.Views.{token_of};
+ghost use Rattle.c_parser.specs.Tests.{first, is_star, begins_specifier};
+ghost use Rattle.c_parser.specs.Reads.{Takes, Sees, TakesNext, mark_of, word_of, name_of, text_of, number_of, character_of};
+
+use bb_words::list::{Bytes, List};
+use c_lexer::{Token, TokenKind};
+use c_words::place::{At, Name};
+use c_words::words::{Punctuator, Reserved};
+use std::alloc::{AllocError, AllocFailed, Global};
+use std::marker::Model;
+
+/// Why a rule is not read.
+#[derive(Clone, Copy, Debug, PartialEq, Eq)]
+pub enum Stop {
+    Memory,
+    /// The next token fits nothing.
+    Syntax,
+    /// A limit on nesting is passed at the next token.
+    TooDeep,
+}
+
+impl From<AllocError> for Stop {
+    ghost use Rattle.std.specs.Prelude.{◌≡◌};
+    ghost use Rattle.c_parser.specs.declared.cursor.Stop.TheVariants.{Memory};
+
+    ghost from_gives = { λ _ e. e ≡ Memory };
+
+    fn from(_: AllocError) -> Stop {
+        Stop::Memory
+    }
+}
+
+impl<T: Drop> From<AllocFailed<T>> for Stop {
+    ghost use Rattle.std.specs.Prelude.{◌≡◌};
+    ghost use Rattle.c_parser.specs.declared.cursor.Stop.TheVariants.{Memory};
+
+    ghost from_gives = { λ _ e. e ≡ Memory };
+
+    fn from(_: AllocFailed<T>) -> Stop {
+        Stop::Memory
+    }
+}
+
+// The same bytes in memory of their own.
+fn copy(alloc: Global, bytes: &List<u8>) -> Result<List<u8>, AllocError>
+    ensures { IfOk result (λ copy. copy ≡ bytes.now) }
+{
+    let mut copy = Vec::new(alloc);
+    copy.extend_from_slice(bytes.as_slice())?;
+    Ok(List::from_vec(copy))
+}
+
+/// The tokens that are left.
+#[derive(Drop)]
+pub struct Cursor<'a> {
+    tokens: &'a [Token],
+    at: usize,
+}
+
+impl<'a> Model for Cursor<'a> {
+    ghost use Rattle.std.specs.Prelude.{List, ◌≤◌, ◌<◌, ◌^◌, length, drop};
+    ghost use Rattle.c_words.specs.Tokens.{Placed};
+    ghost use Rattle.c_lexer.specs.Text.{placed_from};
+    ghost use Rattle.c_lexer.specs.Views.{lexemes};
+
+    ghost Value = { List Placed };
+
+    ghost view = { λ c. placed_from c.at (lexemes (drop c.at c.tokens.now)) };
+
+    ghost invariant = { λ c. (c.at ≤ length c.tokens.now) × (length c.tokens.now < 2 ^ 32) };
+}
+
+impl<'a> Cursor<'a> {
+    /// The punctuator that comes next, if one does.
+    pub fn mark(&self) -> Option<Punctuator>
+        ensures { result ≡ mark_of (first self.now) }
+    {
+        if self.at < self.tokens.len() {
+            match &self.tokens[self.at].kind {
+                TokenKind::Mark(mark) => Some(*mark),
+                _ => None,
+            }
+        } else {
+            None
+        }
+    }
+
+    /// The reserved word that comes next, if one does.
+    pub fn word(&self) -> Option<Reserved>
+        ensures { result ≡ word_of (first self.now) }
+    {
+        if self.at < self.tokens.len() {
+            match &self.tokens[self.at].kind {
+                TokenKind::Word(word) => Some(*word),
+                _ => None,
+            }
+        } else {
+            None
+        }
+    }
+
+    /// The name that comes next, if one does.
+    pub fn name(&self, alloc: Global) -> Result<Option<Name>, AllocError>
+        ensures { IfOk result (λ name. name ≡ name_of (first self.now)) }
+    {
+        if self.at < self.tokens.len() {
+            match &self.tokens[self.at].kind {
+                TokenKind::Name(bytes) => Ok(Some(copy(alloc, bytes)?)),
+                _ => Ok(None),
+            }
+        } else {
+            Ok(None)
+        }
+    }
+
+    /// The bytes of the string that comes next, if one does.
+    pub fn text(&self, alloc: Global) -> Result<Option<Bytes>, AllocError>
+        ensures { IfOk result (λ bytes. bytes ≡ text_of (first self.now)) }
+    {
+        if self.at < self.tokens.len() {
+            match &self.tokens[self.at].kind {
+                TokenKind::Text(bytes) => Ok(Some(copy(alloc, bytes)?)),
+                _ => Ok(None),
+            }
+        } else {
+            Ok(None)
+        }
+    }
+
+    /// The value of the number that comes next, and whether it is unsigned, if one does.
+    pub fn number(&self) -> Option<(u32, bool)>
+        ensures { result ≡ number_of (first self.now) }
+    {
+        if self.at < self.tokens.len() {
+            match &self.tokens[self.at].kind {
+                TokenKind::Number { value, unsigned } => Some((*value, *unsigned)),
+                _ => None,
+            }
+        } else {
+            None
+        }
+    }
+
+    /// The value of the character constant that comes next, if one does.
+    pub fn character(&self) -> Option<u8>
+        ensures { result ≡ character_of (first self.now) }
+    {
+        if self.at < self.tokens.len() {
+            match &self.tokens[self.at].kind {
+                TokenKind::Character(value) => Some(*value),
+                _ => None,
+            }
+        } else {
+            None
+        }
+    }
+
+    /// Whether this punctuator comes next.
+    pub fn sees(&self, mark: Punctuator) -> bool
+        ensures { Sees (tokens.Token.Mark mark) self.now result }
+    {
+        matches!(self.mark(), Some(next) if next == mark)
+    }
+
+    /// Whether this reserved word comes next.
+    pub fn sees_word(&self, word: Reserved) -> bool
+        ensures { Sees (tokens.Token.Word word) self.now result }
+    {
+        matches!(self.word(), Some(next) if next == word)
+    }
+
+    /// Whether a type comes next, by the words that it begins with.
+    pub fn sees_type(&self) -> bool
+        ensures { result ≡ begins_specifier (first self.now) }
+    {
+        matches!(
+            self.word(),
+            Some(
+                Reserved::Void
+                    | Reserved::Char
+                    | Reserved::Int
+                    | Reserved::Signed
+                    | Reserved::Unsigned
+                    | Reserved::Struct
+            )
+        )
+    }
+
+    /// Takes the next token, whatever it is, where that is within the limits.
+    pub fn take_next(&mut self, within: bool) -> Result<At, Stop>
+        ensures { TakesNext within self.old result self.new }
+    {
+        if self.at == self.tokens.len() {
+            return Err(Stop::Syntax);
+        }
+        let at = self.tokens[self.at].at(self.at as u32);
+        if !within {
+            return Err(Stop::TooDeep);
+        }
+        self.at += 1;
+        Ok(at)
+    }
+
+    /// Whether a `*` comes next.
+    pub fn sees_star(&self) -> bool
+        ensures { result ≡ is_star (first self.now) }
+    {
+        matches!(self.mark(), Some(Punctuator::Star))
+    }
+
+    /// Takes the next token, which is this word.
+    pub fn take_word(&mut self, word: Reserved) -> Result<At, Stop>
+        ensures { Takes (tokens.Token.Word word) true self.old result self.new }
+    {
+        if self.word() != Some(word) {
+            return Err(Stop::Syntax);
+        }
+        let at = self.tokens[self.at].at(self.at as u32);
+        self.at += 1;
+        Ok(at)
+    }
+
+    /// Takes the next token, which is this one, where that is within the limits.
+    pub fn take_mark(&mut self, mark: Punctuator, within: bool) -> Result<At, Stop>
+        ensures { Takes (tokens.Token.Mark mark) within self.old result self.new }
+    {
+        if self.mark() != Some(mark) {
+            return Err(Stop::Syntax);
+        }
+        if !within {
+            return Err(Stop::TooDeep);
+        }
+        let at = self.tokens[self.at].at(self.at as u32);
+        self.at += 1;
+        Ok(at)
+    }
+}

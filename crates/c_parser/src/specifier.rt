@@ -1,0 +1,102 @@
+//! Specifiers and the stars of declarators.
+ghost use Rattle.std.specs.Prelude.{◌≡◌, ◌≤◌, ◌+◌, IfOk};
+ghost use Rattle.c_parser.specs.Programs.{Sort, Rule, Program};
+ghost use Rattle.c_tree.specs.Syntax.{TypeDeclaratorTree};
+ghost use Rattle.c_tree.specs.SyntaxViews.{expression_trees, type_declarator_tree};
+ghost use Rattle.c_parser.specs.Bodies.{body};
+ghost use Rattle.c_parser.specs.Bodies as bodies;
+ghost use Rattle.c_parser.specs.Reads.{Reads};
+
+use crate::cursor::{Cursor, Stop};
+use crate::leaf::identifier;
+use c_tree::syntax::{Expression, Specifier, TypeDeclarator};
+use c_words::place::At;
+use c_words::words::{Punctuator, Reserved};
+use std::alloc::Global;
+
+/// The stars in front of a declarator, each of which opens a level.
+pub fn stars(cursor: &mut Cursor<'_>, depth: u32) -> Result<u32, Stop>
+    requires { depth ≤ 200 }
+    ensures reads { Reads Sort.count (body (Rule.stars depth)) (λ n. n) cursor.old result cursor.new }
+    ensures few { IfOk result (λ n. n + depth ≤ 200) }
+{
+    if !cursor.sees_star() {
+        return Ok(0);
+    }
+    cursor.take_mark(Punctuator::Star, depth < 200)?;
+    let more = stars(cursor, depth + 1)?;
+    Ok(more + 1)
+}
+
+/// A specifier (C11 6.7.2).
+pub fn specifier(alloc: Global, cursor: &mut Cursor<'_>) -> Result<Specifier, Stop>
+    ensures { Reads Sort.specifier (body Rule.specifier) (λ s. s) cursor.old result cursor.new }
+{
+    if cursor.sees_word(Reserved::Void) {
+        let at = cursor.take_next(true)?;
+        return Ok(Specifier::Void { at });
+    }
+    if cursor.sees_word(Reserved::Char) {
+        let at = cursor.take_next(true)?;
+        return Ok(Specifier::Char { at });
+    }
+    if cursor.sees_word(Reserved::Int) {
+        let at = cursor.take_next(true)?;
+        return Ok(Specifier::Int { at });
+    }
+    if cursor.sees_word(Reserved::Signed) {
+        let at = cursor.take_next(true)?;
+        if cursor.sees_word(Reserved::Int) {
+            cursor.take_next(true)?;
+            return Ok(Specifier::SignedInt { at });
+        }
+        return Ok(Specifier::Signed { at });
+    }
+    if cursor.sees_word(Reserved::Unsigned) {
+        let at = cursor.take_next(true)?;
+        return unsigned(cursor, at);
+    }
+    if cursor.sees_word(Reserved::Struct) {
+        let at = cursor.take_next(true)?;
+        let tag = identifier(alloc, cursor)?;
+        return Ok(Specifier::Struct { at, tag: tag.0 });
+    }
+    Err(Stop::Syntax)
+}
+
+// What follows an `unsigned` that stands here.
+fn unsigned(cursor: &mut Cursor<'_>, at: At) -> Result<Specifier, Stop>
+    ensures { Reads Sort.specifier (Program.look (bodies.unsigned_by at)) (λ s. s) cursor.old result cursor.new }
+{
+    if cursor.sees_word(Reserved::Int) {
+        cursor.take_next(true)?;
+        return Ok(Specifier::UnsignedInt { at });
+    }
+    if cursor.sees_word(Reserved::Char) {
+        cursor.take_next(true)?;
+        return Ok(Specifier::UnsignedChar { at });
+    }
+    Ok(Specifier::Unsigned { at })
+}
+
+/// Pointers, then array sizes.
+#[tactic(auto, using(c_tree::proofs::SyntaxViews::expression_views))]
+pub fn direct(at: At, stars: u32, sizes: Vec<Expression>) -> TypeDeclarator
+    ensures { type_declarator_tree result ≡ TypeDeclaratorTree.Direct at stars (expression_trees sizes.items) }
+{
+    TypeDeclarator::Direct { at, stars, sizes }
+}
+
+/// Whether a type name's declarator has no tokens.
+#[tactic(auto, using(c_tree::proofs::SyntaxViews::expression_views))]
+pub fn is_nothing(declarator: &TypeDeclarator) -> bool
+    ensures { result ≡ bodies.is_nothing (type_declarator_tree declarator.now) }
+{
+    match declarator {
+        TypeDeclarator::Direct { stars, sizes, .. } => match sizes.first() {
+            None => *stars == 0,
+            Some(_) => false,
+        },
+        TypeDeclarator::Nested { .. } => false,
+    }
+}
