@@ -1,0 +1,10 @@
+pub mod Words
+pub mod Follow
+pub mod Meets
+pub mod Fits
+pub mod Steps
+pub mod Frames
+pub mod Calls
+pub mod Accepted
+pub mod Emitted
+pub mod Whole

@@ -1,0 +1,24 @@
+-- What the call answers.
+use Rattle.std.specs.Prelude.{◌≡◌, ℕ, ◌≤◌, true, false, Result, Ok, Err}
+use Rattle.mid_code.specs.Code.{Program}
+use Rattle.flat_code.specs.declared.code.Flat.{Flat}
+use Rattle.flat_code.specs.Code.{FCode}
+use Rattle.flat_code.specs.CodeViews.{code_of}
+use Rattle.flat_verify.specs.Discipline.{IsDisciplined}
+use Rattle.bounds_instr.specs.declared.error.InstrError.{InstrError}
+use Rattle.bounds_instr.specs.declared.error.InstrError.TheVariants.{NotBuilt, Memory}
+use Rattle.bounds_instr.specs.Built.{is_built}
+use Rattle.bounds_instr.specs.Code.{global_blocks, instrumented}
+use Rattle.bounds_instr.specs.Keeps.{Keeps}
+
+-- For slots of every size this is the code of the program; it does what the program does, and keeps the discipline.
+pub record Instruments (p : Program) (code : FCode) : Type 0 where
+  pub is : (g : ℕ) → 1 ≤ g → g ≤ 24 → code ≡ instrumented g p
+  pub keeps : (g : ℕ) → 1 ≤ g → g ≤ 24 → Keeps g (λ site. false) p code
+  pub disciplined : (g : ℕ) → 1 ≤ g → g ≤ 24 → IsDisciplined g (global_blocks g p) code
+
+-- Flat code comes just where the program is built, if memory is not wanting.
+abbrev pub IsInstrumented : Program → Result Flat InstrError → Type 0
+IsInstrumented p (Ok flat) = (is_built p ≡ true) × Instruments p (code_of flat)
+IsInstrumented p (Err NotBuilt) = is_built p ≡ false
+IsInstrumented p (Err Memory) = Unit {0}

@@ -1,0 +1,18 @@
+-- The laws of instrumenting.
+use Rattle.std.specs.Prelude.{ℕ, ◌≤◌, false}
+use Rattle.mid_code.specs.Code.{Program}
+use Rattle.mid_code.specs.Formed.{Formed}
+use Rattle.bounds_instr.specs.Built.{IsBuilt}
+use Rattle.flat_verify.specs.Discipline.{IsDisciplined}
+use Rattle.bounds_instr.specs.Code.{global_blocks, instrumented}
+use Rattle.bounds_instr.specs.Keeps.{Keeps}
+
+-- The flat code of a program that is well formed and built does what the program does: it ends in the same way within the
+-- same time, having told the same, whatever the size of slots, the input, and the bound on turns and nested calls. No move
+-- is left unchecked.
+abbrev pub InstrumentedKeeps : Type 0
+InstrumentedKeeps = (g : ℕ) (p : Program) → 1 ≤ g → g ≤ 24 → Formed p → IsBuilt p → Keeps g (λ site. false) p (instrumented g p)
+
+-- And it keeps the discipline of flat code, with slots of every size.
+abbrev pub InstrumentedIsDisciplined : Type 0
+InstrumentedIsDisciplined = (g : ℕ) (p : Program) → Formed p → IsBuilt p → IsDisciplined g (global_blocks g p) (instrumented g p)

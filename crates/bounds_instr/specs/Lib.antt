@@ -1,0 +1,5 @@
+pub mod Code
+pub mod Built
+pub mod Keeps
+pub mod Laws
+pub mod Instruments
