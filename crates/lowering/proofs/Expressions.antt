@@ -623,7 +623,7 @@ module _ (g : ℕ) (p : CProgram) (call : SourceCalls) (watch : Watch) (calling 
 
   call_right : (f : Called) (at : Spot) (u : CType) (es : CExprs) → FitsCalled p.functions f (count_of es) → AllRight es → Right (CExpr.expr at u (CForm.Call f es))
   call_right (named.Defined f) at u es fits res = defined_right f at u es fits res
-  call_right (named.Library which) at u es fits res = library_right which fits at u es res
+  call_right (named.Library which) at u es fits res = library_right which fits.0 at u es res
 
   fits_type : (e : CExpr) → Fits p.structs p.functions k e → is_pointer (type_of e) ≡ false
   fits_type (CExpr.expr at u form) fits = fits.0

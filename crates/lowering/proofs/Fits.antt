@@ -9,6 +9,7 @@ use Rattle.c_typed.specs.declared.typed_expr.Conversion.TheVariants as conversio
 use Rattle.c_typed.specs.Types.{CType, is_number, is_pointer, is_struct}
 use Rattle.c_typed.specs.Sizes.{size_of}
 use Rattle.c_typed.specs.TypedTree.{CExpr, CForm, CExprs, CInitial, CInitializer, CDeclaration, CStart, CStmt, CStmts, CLocal, CFunction, CProgram, CStruct, type_of, form_of}
+use Rattle.mid_code.specs.Kinds.{signature_of}
 use Rattle.lowering.specs.Built.{is_of_numbers}
 
 -- a number or void
@@ -51,7 +52,7 @@ Takes fs f n = (h : CFunction) × (slice_get fs f ≡ Some h) × (n ≡ h.params
 
 abbrev pub FitsCalled : List CFunction → Called → (n : ℕ) → Type 0
 FitsCalled fs (Defined f) n = Takes fs f n
-FitsCalled fs (Library f) n = IsTrue (is_of_numbers f)
+FitsCalled fs (Library f) n = IsTrue (is_of_numbers f) × (n ≡ length (signature_of f).params)
 
 -- in a function with k locals
 module _ (structs : List CStruct) (functions : List CFunction) (k : ℕ) where

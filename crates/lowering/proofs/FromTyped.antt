@@ -11,12 +11,14 @@ use Rattle.c_words.specs.declared.operators.AssignOperator.TheVariants as assign
 use Rattle.c_typed.specs.declared.typed_expr.Conversion.TheVariants as conversion
 use Rattle.c_typed.specs.declared.typed_expr.Called.{Called}
 use Rattle.c_typed.specs.declared.typed_expr.Called.TheVariants as called
+use Rattle.c_typed.specs.declared.typed_expr.LibCall.{LibCall}
+use Rattle.c_typed.specs.declared.typed_expr.LibCall.TheVariants as lib
 use Rattle.c_typed.specs.Types.{CType, is_number, is_pointer, is_struct, is_array, IsPointer, IsScalar}
 use Rattle.c_typed.specs.Sizes.{size_of, IsComplete, IsType}
 use Rattle.c_typed.specs.TypedTree.{CExpr, CForm, CExprs, CInitial, CInitializer, CDeclaration, CStart, CStmt, CStmts, CLocal, CFunction, CProgram, CStruct, type_of}
 use Rattle.c_typed.specs.Walk.{Sum, over_initial, over_initializer, over_declaration, over_declarations, over_start, over_expr_if_any, over_stmts, walked_all, all_of, every_expr}
 use Rattle.c_typed.specs.TypedOperands.{is_place, has_object, IsPlain}
-use Rattle.c_typed.specs.TypedRules.{prototype_of, IsResult, IsAssignable, IsAssignment, MayCast, IsCall, AreGiven}
+use Rattle.c_typed.specs.TypedRules.{prototype_of, prototype_in_library, IsResult, IsAssignable, IsAssignment, MayCast, IsCall, AreGiven}
 use Rattle.c_typed.specs.TypedRules.IsSet.{scalar as set_scalar, struct as set_struct}
 use Rattle.c_typed.specs.TypedRules.IsChanged.{numbers as changed_numbers, pointer_and_number as changed_pointer}
 use Rattle.c_typed.specs.TypedRules.MayCast.{to_void, numbers as cast_numbers, pointers as cast_pointers, null as cast_null}
@@ -24,6 +26,7 @@ use Rattle.c_typed.specs.TypedBody.{Environment, IsExpr, AreExprs, IsInitialized
 use Rattle.c_typed.specs.TypedBody.IsInitialized.{parts as by_parts, copy as by_copy}
 use Rattle.c_typed.specs.Typed.{IsStruct, IsFunction, Typed, environment_of, stmt_refers}
 use Rattle.c_typed.specs.TypedLaws.{TypesAreSmall, AggregatesHaveObjects}
+use Rattle.mid_code.specs.Kinds.{signature_of}
 use Rattle.lowering.specs.Built.{has_pointer, is_called, is_built_expr, is_built_stmt, are_built_locals, are_built_structs, is_built_function, are_built_functions, is_empty, is_built}
 use Rattle.lowering.proofs.Fits.{is_reckoned, is_unconverted, count_of, FitsCalled, IsVariable, Fits, AllFit, FitsIfAny, InitialFits, InitializerFits, DeclarationFits, DeclarationsFit, StartFits, StmtFits, StmtsFit, gives, FunctionFits, ProgramFits}
 
@@ -38,7 +41,7 @@ nothing_in xs k x e h = true≢false (ap test (sym (ap (λ z. slice_get z k) e) 
     test (Some x) = false
 
 -- what is found in a list of images is an image
-found_image : {X Y : Type 0} (f : X → Y) (xs : List X) (k : ℕ) (y : Y) → slice_get (map f xs) k ≡ Some y → (x : X) × (slice_get xs k ≡ Some x) × (f x ≡ y)
+pub found_image : {X Y : Type 0} (f : X → Y) (xs : List X) (k : ℕ) (y : Y) → slice_get (map f xs) k ≡ Some y → (x : X) × (slice_get xs k ≡ Some x) × (f x ≡ y)
 found_image f xs k y e = of (slice_get xs k) refl (sym (slice_get-map f xs k) ∙ e)
   where
     test : {X : Type 0} → Option X → Bool
@@ -165,6 +168,20 @@ given_count [] (CExprs.more e es) h = absurd h
 given_count (t ∷ ts) CExprs.none h = absurd h
 given_count (t ∷ ts) (CExprs.more e es) h = ap (λ n. 1 + n) (given_count ts es h.1) ∙ omega arith
 
+abbrev value_or : {X : Type 0} → X → Option X → X
+value_or d None = d
+value_or d (Some x) = x
+
+library_count : (which : LibCall) → length (prototype_in_library which).params ≡ length (signature_of which).params
+library_count lib.Putchar = refl
+library_count lib.Getchar = refl
+library_count lib.Exit = refl
+library_count lib.Malloc = refl
+library_count lib.Calloc = refl
+library_count lib.Free = refl
+library_count lib.Memcpy = refl
+library_count lib.Memset = refl
+
 -- what is known of a function of a program
 pub record Setting (p : CProgram) (f : CFunction) : Type 0 where
   pub small : TypesAreSmall
@@ -220,7 +237,8 @@ module _ (p : CProgram) (f : CFunction) (given : Setting p f) where
   -- ---- Expressions
 
   called_fits : (c : Called) (es : CExprs) (t : CType) → is_called c ≡ true → IsCall names.functions c es t → FitsCalled p.functions c (count_of es)
-  called_fits (called.Library which) es t ok is = ok
+  called_fits (called.Library which) es t ok is =
+      (ok, given_count is.prototype.params es is.given ∙ sym (ap (λ o. length (value_or is.prototype o).params) is.found) ∙ library_count which)
   called_fits (called.Defined i) es t ok is =
       let image = found_image prototype_of p.functions i is.prototype is.found in
       let h = image.0 in (
@@ -389,7 +407,7 @@ module _ (p : CProgram) (f : CFunction) (given : Setting p f) where
 
 -- ---- Functions and programs
 
-built_local : (ls : List CLocal) → are_built_locals ls ≡ true → (j : ℕ) (l : CLocal) → slice_get ls j ≡ Some l → (l.is_block ≡ false) × (not (has_pointer l.ty) ≡ true)
+pub built_local : (ls : List CLocal) → are_built_locals ls ≡ true → (j : ℕ) (l : CLocal) → slice_get ls j ≡ Some l → (l.is_block ≡ false) × (not (has_pointer l.ty) ≡ true)
 built_local [] h j l e = absurd (nothing_in [] j l refl e)
 built_local (x ∷ xs) h zero l e =
     let parts = and_parts (not x.is_block && not (has_pointer x.ty)) (are_built_locals xs) h in
@@ -416,7 +434,7 @@ built_function (x ∷ xs) h zero f e = subst (λ z. is_built_function z ≡ true
     same e = ap (from_some x) e
 built_function (x ∷ xs) h (suc i) f e = built_function xs (and_parts (is_built_function x) (are_built_functions xs) h).1 i f e
 
-empty_is : {X : Type 0} (xs : List X) → is_empty xs ≡ true → xs ≡ []
+pub empty_is : {X : Type 0} (xs : List X) → is_empty xs ≡ true → xs ≡ []
 empty_is [] h = refl
 empty_is (x ∷ xs) h = absurd (true≢false (sym h))
 

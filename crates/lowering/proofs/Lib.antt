@@ -11,3 +11,8 @@ pub mod Counted
 pub mod Emitted
 pub mod Light
 pub mod FortyTwo
+pub mod Reckoning
+pub mod Reckoned
+pub mod FormedCode
+pub mod Loops
+pub mod Lowered

@@ -120,7 +120,7 @@ light_call : (f : Called) (line t : ℕ) (args : List ℕ) → weight_of (callin
 light_call (called.Defined f) line t args = omega arith
 light_call (called.Library f) line t args = omega arith
 
-places_count : (es : CExprs) (t : ℕ) → length (places es t) ≡ count_of es
+pub places_count : (es : CExprs) (t : ℕ) → length (places es t) ≡ count_of es
 places_count CExprs.none t = refl
 places_count (CExprs.more e es) t = ap (λ n. suc n) (places_count es (t + 1)) ∙ omega arith
 

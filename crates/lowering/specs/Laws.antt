@@ -2,9 +2,10 @@
 use Rattle.std.specs.Prelude.{◌≡◌, ◌≤◌, ◌*◌, All, []}
 use Rattle.c_typed.specs.Counts.{values_of, nodes_of_program}
 use Rattle.c_typed.specs.TypedTree.{CProgram}
-use Rattle.c_typed.specs.Typed.{Typed}
+use Rattle.c_typed.specs.Typed.{Typed, HasLines}
 use Rattle.c_typed.specs.TypedLaws.{forty_two}
 use Rattle.source_meaning.specs.declared.values.Ending.TheVariants.{Exited}
+use Rattle.mid_code.specs.Formed.{Formed}
 use Rattle.mid_code.specs.Meaning.{Came}
 use Rattle.mid_code.specs.Runs as mid
 use Rattle.mid_code.specs.Weight.{weight}
@@ -25,6 +26,10 @@ CodeKeeps = (p : CProgram) → Typed p → IsBuilt p → HasRoom p → Keeps p (
 -- The code of a typed program that is built comes to at most 504 bytes for each of its nodes.
 abbrev pub CodeIsLight : Type 0
 CodeIsLight = (p : CProgram) → Typed p → IsBuilt p → weight (lowered p) ≤ 504 * nodes_of_program p
+
+-- The code of a typed program that is built is well formed, where its lines are those of a text.
+abbrev pub CodeIsFormed : Type 0
+CodeIsFormed = (p : CProgram) → Typed p → HasLines p → IsBuilt p → HasRoom p → Formed (lowered p)
 
 -- The code of `int main(void){return 42;}` exits with 42, where one call may be nested.
 abbrev pub FortyTwoExits : Type 0

@@ -3,3 +3,4 @@ pub mod Built
 pub mod Keeps
 pub mod Room
 pub mod Laws
+pub mod Lowers

@@ -1,7 +1,7 @@
 //! Laws of lowering.
-ghost use Rattle.lowering.specs.Laws.{CodeKeeps, CodeIsLight, FortyTwoExits};
+ghost use Rattle.lowering.specs.Laws.{CodeKeeps, CodeIsLight, CodeIsFormed, FortyTwoExits};
 
-use c_typed::typed_laws::{aggregates_have_objects, types_are_small};
+use c_typed::typed_laws::{aggregates_have_objects, temps_at_least_four, types_are_small};
 
 /// The code of a typed program that is built means what the program means, within its cost.
 pub fn code_keeps()
@@ -17,6 +17,15 @@ pub fn code_is_light()
 {
     types_are_small();
     aggregates_have_objects();
+}
+
+/// The code of a typed program that is built is well formed.
+pub fn code_is_formed()
+    ensures { CodeIsFormed }
+{
+    types_are_small();
+    aggregates_have_objects();
+    temps_at_least_four();
 }
 
 /// The code of `int main(void){return 42;}` exits with 42.
