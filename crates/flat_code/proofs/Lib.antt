@@ -11,3 +11,4 @@ pub mod More
 pub mod Fronts
 pub mod Found
 pub mod Straight
+pub mod Traps

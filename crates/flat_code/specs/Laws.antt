@@ -2,6 +2,8 @@
 use Rattle.std.specs.Prelude.{◌≡◌, ◌⊎◌, ◌↔◌, ℕ, ◌+◌, ◌-◌, ◌^◌, ◌<◌, ◌≤◌, List, ◌++◌, true, Some, None}
 use Rattle.bb_words.specs.Answers.{Answer}
 use Rattle.bb_words.specs.declared.kinds.ReportKind.TheVariants.{Bounds}
+use Rattle.bb_words.specs.declared.kinds.TrapKind.{TrapKind}
+use Rattle.bb_words.specs.declared.kinds.TrapKind.TheVariants as trap
 use Rattle.bb_words.specs.declared.steps.Width.TheVariants.{Pointer}
 use Rattle.marked_ptr.specs.Marked.{owner_slot, moved}
 use Rattle.size_table.specs.Blocks.{Block}
@@ -110,6 +112,24 @@ abbrev pub MoreTurnsExtend : Type 0
 MoreTurnsExtend =
     (g : ℕ) (code : FCode) (globals : List Block) (frames : List (List ℕ)) (input : List ℕ) (m n : ℕ) → m ≤ n
     → Extends (flat_run g code globals frames input m) (flat_run g code globals frames input n)
+
+-- ---- Traps
+
+-- the traps of an access: in the null page, by a marked word, or at no multiple of its size
+abbrev pub IsOfAccess : TrapKind → Type 0
+IsOfAccess trap.Null = Unit {0}
+IsOfAccess trap.Marked = Unit {0}
+IsOfAccess trap.Misaligned = Unit {0}
+IsOfAccess kind = ⊥
+
+abbrev pub TrapsOfAccess : {A : Type 0} → Run A → Type 0
+TrapsOfAccess (Answer.Goes a u) = Unit {0}
+TrapsOfAccess (Answer.Ends (Ending.Trapped kind) u) = IsOfAccess kind
+TrapsOfAccess (Answer.Ends ending u) = Unit {0}
+
+-- flat code traps only at an access
+abbrev pub TrapsAreOfAccesses : Type 0
+TrapsAreOfAccesses = (g : ℕ) (code : FCode) (globals : List Block) (frames : List (List ℕ)) (input : List ℕ) (m : ℕ) → TrapsOfAccess (flat_run g code globals frames input m)
 
 -- ---- Sequences
 

@@ -1,5 +1,5 @@
 //! What holds of flat code, for what stands on it.
-ghost use Rattle.flat_code.specs.Laws.{TellsAppend, OutputAppends, TrailAppends, LiveAppends, EverAppends, SafeAppends, AllByLater, AllByAppends, FrontsCompare, OutputBegins, TrailBegins, TellsBegin, StepsAdvance, ProgramsAdvance, AllCame, StraightTakes, MoreTurnsExtend, MoveSequenceMoves, LoadSequenceLoads, LoadSequenceStops, SpanSequenceSpans, SequencesAreFound, FoundAreSequences};
+ghost use Rattle.flat_code.specs.Laws.{TellsAppend, OutputAppends, TrailAppends, LiveAppends, EverAppends, SafeAppends, AllByLater, AllByAppends, FrontsCompare, OutputBegins, TrailBegins, TellsBegin, StepsAdvance, ProgramsAdvance, AllCame, StraightTakes, MoreTurnsExtend, TrapsAreOfAccesses, MoveSequenceMoves, LoadSequenceLoads, LoadSequenceStops, SpanSequenceSpans, SequencesAreFound, FoundAreSequences};
 ghost use Rattle.flat_code.specs.Examples.{ExamplesRun, ExamplesWeigh};
 
 /// What was told in two lists, without its times.
@@ -85,6 +85,11 @@ pub fn straight_takes()
 /// With more turns and calls a run that has ended is the same, and one that is cut goes on.
 pub fn more_turns_extend()
     ensures { MoreTurnsExtend }
+{}
+
+/// Flat code traps only at an access: in the null page, by a marked word, or at no multiple of its size.
+pub fn traps_are_of_accesses()
+    ensures { TrapsAreOfAccesses }
 {}
 
 /// A move sequence does what the move of words answers.

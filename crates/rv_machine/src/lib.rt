@@ -11,6 +11,4 @@ pub mod laws;
 pub mod machine;
 mod memory;
 pub mod stop;
-#[cfg(test)]
-mod tests;
 mod told;
