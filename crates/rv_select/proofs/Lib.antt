@@ -1,0 +1,4 @@
+pub mod Emitted
+pub mod Labels
+pub mod Leading
+pub mod Sizes

@@ -1,0 +1,18 @@
+//! What holds of the parts that are selected, for what stands on it.
+ghost use Rattle.rv_select.specs.Follows.{StepsLead};
+ghost use Rattle.rv_select.specs.Laws.{PartsAreLight, LabelsStandOnce};
+
+/// The parts need at most as many bytes as the code weighs, with every branch and jump in its longest form.
+pub fn parts_are_light()
+    ensures { PartsAreLight }
+{}
+
+/// The instructions of steps that compute do to the words of the control frame what flat code does to values.
+pub fn steps_lead()
+    ensures { StepsLead }
+{}
+
+/// Each label that the parts have stands once.
+pub fn labels_stand_once()
+    ensures { LabelsStandOnce }
+{}
