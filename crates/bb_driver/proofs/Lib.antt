@@ -1,0 +1,4 @@
+pub mod Shared
+pub mod Safe
+pub mod Composed
+pub mod Layered
