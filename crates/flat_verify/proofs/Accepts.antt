@@ -185,7 +185,7 @@ module _ (g : ℕ) (globals : List Block) (sg : Signs) (code : FCode) where
       start = λ f x n ask. unspanned_at f (slice_get fs f) refl x n;
       covers = λ f h i a b x e ask k. (passing f h i a (Some b) e).covers x k;
       returns = λ k from h a b e. (passing k h (Item.Plain (FStep.Return from)) a b e).handed;
-      passes = λ f to k args h a b e. (passing f h (Item.Plain (FStep.Call to k args)) a b e).handed;
+      passes = λ f to k args h a b e j v params at is lt ask z. (passing f h (Item.Plain (FStep.Call to k args)) a b e).handed j v params at is lt z;
     }
 
     sound : (f p : ℕ) (x : Fact) → LostAt g globals fs f p x → T f p x ≡ false

@@ -81,7 +81,7 @@ module _ (S : ℕ → Setting) (E : ℕ → Edges) (A : ℕ → Fact → Bool) (
   least _ (Lost.goes_on f h i a b x y m e is l) = λ ask. unless (T f b x) (λ k. sym (least (Spot.At f a y) l (c.sources f h i a b x y e ask is (lost_in S E (Spot.At f a y) l))) ∙ (ap (holds gives (T f a)) (sym is) ∙ c.covers f h i a b x e ask k))
   least _ (Lost.given f g h i a b x m e is l) = λ ask. unless (T f b x) (λ k. sym (least (Spot.Result g) l) ∙ (ap (holds gives (T f a)) (sym is) ∙ c.covers f h i a b x e ask k))
   least _ (Lost.returned g from h a b e l) = unless (gives g) (λ k. sym (least (Spot.At g a (Fact.Clean from)) l (c.cleans g from (lost_in S E (Spot.At g a (Fact.Clean from)) l))) ∙ c.returns g from h a b e k)
-  least _ (Lost.passed f to g k u params args h a b e at is lt m l) = λ ask. unless (T g 0 (Fact.Clean k)) (λ z. sym (least (Spot.At f a (Fact.Clean u)) l (c.cleans f u (lost_in S E (Spot.At f a (Fact.Clean u)) l))) ∙ c.passes f to g args h a b e k u params at is lt z)
+  least _ (Lost.passed f to g k u params args h a b e at is lt m l) = λ ask. unless (T g 0 (Fact.Clean k)) (λ z. sym (least (Spot.At f a (Fact.Clean u)) l (c.cleans f u (lost_in S E (Spot.At f a (Fact.Clean u)) l))) ∙ c.passes f to g args h a b e k u params at is lt ask z)
 
 -- one step of a pass: a fact that a table loses along an edge has a chain
 pub lost_after : (S : ℕ → Setting) (E : ℕ → Edges) (gives : ℕ → Bool) (T : ℕ → ℕ → Known) → ((f p : ℕ) (x : Fact) → T f p x ≡ false → Lost S E (Spot.At f p x)) → ((g : ℕ) → gives g ≡ false → Lost S E (Spot.Result g)) → (f : ℕ) (h : Here) (i : Item) (a b : ℕ) (x : Fact) → fact_in (S f) x ≡ true → E f h i a (Some b) → known_after (S f) gives h i (T f a) x ≡ false → Lost S E (Spot.At f b x)

@@ -15,3 +15,13 @@ pub mod Worked
 pub mod Begins
 pub mod Runs
 pub mod Safe
+pub mod EffectOf
+pub mod Links
+pub mod Marks
+pub mod Cells
+pub mod RuleLists
+pub mod Exact
+pub mod Firsts
+pub mod Origins
+pub mod Pushed
+pub mod Sized

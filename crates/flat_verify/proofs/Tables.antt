@@ -7,7 +7,7 @@ use Rattle.flat_code.specs.Recognized.{Sequence}
 use Rattle.flat_verify.specs.Items.{Item, Items, places, all_places, first_place}
 use Rattle.flat_verify.specs.Facts.{Fact, Setting, Here, untold, branch, here_after}
 use Rattle.flat_verify.specs.Chains.{Leading, leading, leads}
-use Rattle.flat_verify.specs.Closed.{Known, Covers, known_after, Each, EachAll, HandsOver as HandsArgs}
+use Rattle.flat_verify.specs.Closed.{Known, Covers, known_after, Each, EachAll}
 use Rattle.flat_verify.specs.Derivations.{Signs, implied, passes_known, hands, Leads, Good, Goods, at_start}
 
 -- ---- Edges of a closed table
@@ -19,7 +19,8 @@ LeadsTo T (Some q) K = Covers (T q) K
 
 -- what is known of parameters and results is known of arguments and returned values
 abbrev pub HandsOver : Setting → (gives : Bool) → (starts : ℕ → Known) → FStep → Known → Type 0
-HandsOver s gives starts (FStep.Call to g args) K = HandsArgs s starts g args K
+HandsOver s gives starts (FStep.Call to g args) K =
+    (k v params : ℕ) → slice_get args k ≡ Some v → s.params_of g ≡ Some params → k < params → starts g (Fact.Clean k) ≡ true → K (Fact.Clean v) ≡ true
 HandsOver s gives starts (FStep.Return from) K = gives ≡ true → K (Fact.Clean from) ≡ true
 HandsOver s gives starts x K = Unit {0}
 

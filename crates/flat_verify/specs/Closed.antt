@@ -46,10 +46,10 @@ module _ (g : ℕ) (P : Edges) where
 
 -- ---- Closed and exact tables
 
--- what is known of parameters is known of arguments
-abbrev pub HandsOver : Setting → (starts : ℕ → Known) → (function : ℕ) → List ℕ → Known → Type 0
-HandsOver s starts g args K =
-    (k v params : ℕ) → slice_get args k ≡ Some v → s.params_of g ≡ Some params → k < params → starts g (Fact.Clean k) ≡ true → K (Fact.Clean v) ≡ true
+-- what is known of parameters is known of arguments, where it is asked
+abbrev pub HandsOver : Setting → (asks : Fact → Bool) → (start : Known) → (function : ℕ) → List ℕ → Known → Type 0
+HandsOver s asks start g args K =
+    (k v params : ℕ) → slice_get args k ≡ Some v → s.params_of g ≡ Some params → k < params → asks (Fact.Clean k) ≡ true → start (Fact.Clean k) ≡ true → K (Fact.Clean v) ≡ true
 
 -- Tables T, one a function, that are closed for the facts that are asked, A; they may say what they like of others.
 pub record ClosedOn (S : ℕ → Setting) (E : ℕ → Edges) (A : ℕ → Fact → Bool) (gives : ℕ → Bool) (T : ℕ → ℕ → Known) : Type 0 where
@@ -60,7 +60,7 @@ pub record ClosedOn (S : ℕ → Setting) (E : ℕ → Edges) (A : ℕ → Fact 
   pub start : (f x n : ℕ) → A f (Fact.Spanned x n) ≡ true → T f 0 (Fact.Spanned x n) ≡ false
   pub covers : (f : ℕ) (h : Here) (i : Item) (a b : ℕ) (x : Fact) → E f h i a (Some b) → A f x ≡ true → T f b x ≡ true → known_after (S f) gives h i (T f a) x ≡ true
   pub returns : (g from : ℕ) (h : Here) (a : ℕ) (b : Option ℕ) → E g h (Item.Plain (FStep.Return from)) a b → gives g ≡ true → T g a (Fact.Clean from) ≡ true
-  pub passes : (f to g : ℕ) (args : List ℕ) (h : Here) (a : ℕ) (b : Option ℕ) → E f h (Item.Plain (FStep.Call to g args)) a b → HandsOver (S f) (λ k. T k 0) g args (T f a)
+  pub passes : (f to g : ℕ) (args : List ℕ) (h : Here) (a : ℕ) (b : Option ℕ) → E f h (Item.Plain (FStep.Call to g args)) a b → HandsOver (S f) (A g) (T g 0) g args (T f a)
 
 -- and that mark no fact without a chain
 pub record Exact (S : ℕ → Setting) (E : ℕ → Edges) (A : ℕ → Fact → Bool) (gives : ℕ → Bool) (T : ℕ → ℕ → Known) : Type 0 where

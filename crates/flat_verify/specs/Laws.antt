@@ -1,5 +1,5 @@
 -- What holds of the discipline.
-use Rattle.std.specs.Prelude.{◌≡◌, ◌==◌, not, ℕ, Bool, true, false, List, Option, slice_get}
+use Rattle.std.specs.Prelude.{◌≡◌, ◌==◌, not, ℕ, suc, Bool, true, false, List, length, Option, Some, None, slice_get}
 use Rattle.size_table.specs.Blocks.{Block}
 use Rattle.bb_words.specs.declared.kinds.ReportKind.TheVariants.{Bounds}
 use Rattle.flat_code.specs.Code.{FStep, FSteps, ◌+++◌, FFunction, FCode}
@@ -10,6 +10,9 @@ use Rattle.flat_verify.specs.Breaks.{is_plain}
 use Rattle.flat_verify.specs.Closed.{Known, ClosedOn, Exact}
 use Rattle.flat_verify.specs.Discipline.{setting, edges, LostAt, BreaksBy, Place, FirstBad, FirstBreak, IsDisciplined}
 use Rattle.flat_verify.specs.Derivations.{Signs, GoodProgram}
+use Rattle.flat_verify.specs.Reach.{Reached, is_marked}
+use Rattle.flat_verify.specs.Sheets.{Sheet, all_rules, asks, gives, known, Stands, AreSheets}
+use Rattle.flat_verify.specs.Verdict.{function_demands, first_unmet, FirstOf}
 
 -- ---- Items
 
@@ -76,3 +79,19 @@ ExactTablesTell =
     (g : ℕ) (globals : List Block) (code : FCode) (A : ℕ → Fact → Bool) (gives : ℕ → Bool) (T : ℕ → ℕ → Known)
     → Exact (setting g globals code.functions) (edges g globals code.functions) A gives T → (answer : Option Place)
     → FirstBad (BreaksByTable g globals code T) answer → FirstBreak g globals code answer
+
+-- ---- Tables that are computed
+
+-- marks that are exactly what the rules of a program's sheets reach are an exact table
+abbrev pub MarkedSheetsAreExact : Type 0
+MarkedSheetsAreExact =
+    (g : ℕ) (globals : List Block) (functions : List FFunction) (sheets : List Sheet) (total : ℕ) (marks : List Bool)
+    → AreSheets g globals functions 0 functions sheets → Stands (suc (length sheets)) sheets total
+    → ((n : ℕ) → is_marked marks n ≡ true → Reached (all_rules sheets) n) → ((n : ℕ) → Reached (all_rules sheets) n → is_marked marks n ≡ true)
+    → Exact (setting g globals functions) (edges g globals functions) (asks sheets) (gives sheets marks) (known sheets marks)
+
+-- The first demand of a function that a table does not meet is the function's first break by the table.
+abbrev pub FirstUnmetIsFirst : Type 0
+FirstUnmetIsFirst =
+    (g : ℕ) (globals : List Block) (code : FCode) (T : ℕ → ℕ → Known) (f : ℕ) (fn : FFunction) → slice_get code.functions f ≡ Some fn
+    → FirstOf (BreaksByTable g globals code T f) (first_unmet (T f) None (function_demands g (setting g globals code.functions f) code.main f fn))

@@ -8,4 +8,12 @@ pub mod Derivations
 pub mod Examples
 pub mod Laws
 pub mod Comes
+pub mod Effects
+pub mod Links
+pub mod Reach
+pub mod Sheets
+pub mod Verdict
+pub mod Told
+pub mod Views
+pub mod SheetViews
 pub mod Safe

@@ -1,5 +1,5 @@
 //! What holds of the discipline, for what stands on it.
-ghost use Rattle.flat_verify.specs.Laws.{ItemsAreSteps, SequencesAreItems, PlainItemsAreRead, ClosedTablesKnow, DerivationsAreAccepted, FirstIsOne, ExactTablesTell};
+ghost use Rattle.flat_verify.specs.Laws.{ItemsAreSteps, SequencesAreItems, PlainItemsAreRead, ClosedTablesKnow, DerivationsAreAccepted, FirstIsOne, ExactTablesTell, MarkedSheetsAreExact, FirstUnmetIsFirst};
 ghost use Rattle.flat_verify.specs.Examples.{ExamplesBreak};
 ghost use Rattle.flat_verify.specs.Safe.{DisciplinedIsSafe};
 
@@ -40,6 +40,16 @@ pub fn first_is_one()
 /// By an exact table the first place that breaks the discipline is the first by chains.
 pub fn exact_tables_tell()
     ensures { ExactTablesTell }
+{}
+
+/// Marks that are exactly what the rules of a program's sheets reach are an exact table.
+pub fn marked_sheets_are_exact()
+    ensures { MarkedSheetsAreExact }
+{}
+
+/// The first demand of a function that a table does not meet is the function's first break by the table.
+pub fn first_unmet_is_first()
+    ensures { FirstUnmetIsFirst }
 {}
 
 /// Disciplined code is safe in every run, with freed and forged pointers too: its moves and accesses are, and it does

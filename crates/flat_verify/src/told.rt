@@ -1,0 +1,212 @@
+//! What a list of steps tells by itself: what guards it, what a value was just set by.
+ghost use Rattle.std.specs.Prelude.{◌≡◌, ◌==◌, ◌&&◌, not, ℕ, OnOk, if◌then◌else◌};
+ghost use Rattle.flat_code.specs.CodeViews.{step_of};
+ghost use Rattle.flat_verify.specs.Facts.{tell, untold, branch, origin_of, masked_if, guard_after, test_if, test_after};
+ghost use Rattle.flat_verify.specs.Told.{here_of, origin_at, origin_written, guard_written, test_written};
+
+use crate::steps::value_set;
+use bb_words::steps::ArithOp;
+use flat_code::code::FlatStep;
+use std::alloc::{AllocError, Global};
+
+/// The steps run only where the value `index` is below the value `count`.
+#[derive(Clone, Copy)]
+pub struct Limit {
+    pub index: u32,
+    pub count: u32,
+}
+
+/// What just set a value.
+#[derive(Clone, Copy)]
+pub enum SetBy {
+    Other,
+    InFrame(u32),
+    Constant(u32),
+    AtMost(u32),
+}
+
+/// A value that was set by testing a limit.
+#[derive(Clone, Copy)]
+pub struct Test {
+    pub value: u32,
+    pub limit: Limit,
+}
+
+/// A value, and what set it last.
+#[derive(Clone, Copy)]
+pub struct Setting {
+    pub value: u32,
+    pub by: SetBy,
+}
+
+/// What is told before a step.
+#[derive(Drop)]
+pub struct Told {
+    pub guard: Option<Limit>,
+    pub test: Option<Test>,
+    pub origins: Vec<Setting>,
+}
+
+/// What is told at the begin of a list.
+pub(crate) fn nothing_told(alloc: Global) -> Told
+    ensures { here_of result ≡ untold }
+{
+    Told {
+        guard: None,
+        test: None,
+        origins: Vec::new(alloc),
+    }
+}
+
+/// What is told where an `If` found its value not to be 0.
+pub(crate) fn told_in_branch(alloc: Global, told: &Told, cond: u32) -> Told
+    ensures { here_of result ≡ branch (here_of told.now) cond }
+{
+    let guard = match told.test {
+        Some(test) => {
+            if test.value == cond {
+                Some(test.limit)
+            } else {
+                None
+            }
+        }
+        None => None,
+    };
+    Told {
+        guard,
+        test: None,
+        origins: Vec::new(alloc),
+    }
+}
+
+// What set the value last.
+pub(crate) fn set_last(origins: &[Setting], value: u32) -> SetBy
+    ensures { origin_written result ≡ origin_at origins.now value }
+{
+    match origins {
+        [] => SetBy::Other,
+        [first, rest @ ..] => {
+            if value == first.value {
+                first.by
+            } else {
+                set_last(rest, value)
+            }
+        }
+    }
+}
+
+// The value was set by this.
+fn set_now(origins: &mut Vec<Setting>, value: u32, by: SetBy) -> Result<(), AllocError>
+    ensures { OnOk result ((v : ℕ) → origin_at origins.new.items v ≡ (if v == value then origin_written by else origin_at origins.old.items v)) }
+{
+    for k in 0..origins.len() {
+        if origins[k].value == value {
+            origins[k] = Setting { value, by };
+            return Ok(());
+        }
+    }
+    origins.push(Setting { value, by })?;
+    Ok(())
+}
+
+fn masked(op: ArithOp, by: SetBy) -> SetBy
+    ensures { origin_written result ≡ masked_if op (origin_written by) }
+{
+    match op {
+        ArithOp::And => match by {
+            SetBy::Constant(m) => SetBy::AtMost(m),
+            _ => SetBy::Other,
+        },
+        _ => SetBy::Other,
+    }
+}
+
+#[tactic(auto, using(flat_code::proofs::CodeViewed::flat_views))]
+fn set_by_step(told: &Told, step: &FlatStep) -> SetBy
+    ensures { origin_written result ≡ origin_of (here_of told.now) (step_of step.now) }
+{
+    match step {
+        FlatStep::FrameAt { to: _, offset } => SetBy::InFrame(*offset),
+        FlatStep::Number { to: _, value } => SetBy::Constant(value.0),
+        FlatStep::Arith {
+            to: _,
+            op,
+            left: _,
+            right,
+        } => masked(*op, set_last(&told.origins, *right)),
+        _ => SetBy::Other,
+    }
+}
+
+#[tactic(auto, using(flat_code::proofs::CodeViewed::flat_views))]
+fn guard_now(guard: Option<Limit>, step: &FlatStep) -> Option<Limit>
+    ensures { guard_written result ≡ guard_after (guard_written guard) (step_of step.now) }
+{
+    match step {
+        FlatStep::Arith {
+            to,
+            op: _,
+            left: _,
+            right: _,
+        } => match guard {
+            Some(limit) => {
+                if limit.index == *to || limit.count == *to {
+                    None
+                } else {
+                    Some(limit)
+                }
+            }
+            None => None,
+        },
+        _ => None,
+    }
+}
+
+fn test_of(op: ArithOp, to: u32, left: u32, right: u32) -> Option<Test>
+    ensures { (c : ℕ) → test_written result c ≡ test_if op ((c == to) && (not (left == to) && not (right == to))) left right }
+{
+    match op {
+        ArithOp::Ltu => {
+            if left == to || right == to {
+                None
+            } else {
+                Some(Test {
+                    value: to,
+                    limit: Limit {
+                        index: left,
+                        count: right,
+                    },
+                })
+            }
+        }
+        _ => None,
+    }
+}
+
+#[tactic(auto, using(flat_code::proofs::CodeViewed::flat_views))]
+fn test_now(step: &FlatStep) -> Option<Test>
+    ensures { (c : ℕ) → test_written result c ≡ test_after (step_of step.now) c }
+{
+    match step {
+        FlatStep::Arith {
+            to,
+            op,
+            left,
+            right,
+        } => test_of(*op, *to, *left, *right),
+        _ => None,
+    }
+}
+
+/// What is told after a step.
+pub(crate) fn tell_step(told: &mut Told, step: &FlatStep) -> Result<(), AllocError>
+    ensures { OnOk result (here_of told.new ≡ tell (here_of told.old) (step_of step.now)) }
+{
+    let by = set_by_step(told, step);
+    told.guard = guard_now(told.guard, step);
+    told.test = test_now(step);
+    if let Some(to) = value_set(step) {
+        set_now(&mut told.origins, to, by)?;
+    }
+    Ok(())
+}
