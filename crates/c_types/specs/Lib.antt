@@ -1,0 +1,10 @@
+pub mod Names
+pub mod Scene
+pub mod Parts
+pub mod Expressions
+pub mod Declarators
+pub mod Structs
+pub mod Initializers
+pub mod Statements
+pub mod Units
+pub mod Examples
