@@ -14,6 +14,3 @@ mod words;
 pub use fault::LexError;
 pub use text::{lex, one_reading, tokens_are_slices};
 pub use token::{Token, TokenKind, Tokens};
-
-#[cfg(test)]
-mod tests;

@@ -12,8 +12,6 @@ pub mod expressions;
 pub mod grammar;
 pub mod specifiers;
 pub mod statements;
-#[cfg(test)]
-mod tests;
 pub mod units;
 
 pub use declarations::{

@@ -1,5 +1,7 @@
-use super::*;
+//! Texts of C and their tokens. What each has to give is read from C11 6.4.
+use c_lexer::{LexError, TokenKind, lex};
 use c_words::words::{Punctuator, Reserved};
+use std::alloc::Global;
 use std::test::Fail;
 
 /// A token without the memory that it owns.
@@ -24,8 +26,27 @@ fn shown(kind: &TokenKind) -> Seen<'_> {
     }
 }
 
-// The last token of each text, its place, and how many tokens there are.
-const LAST: [(&[u8], Seen<'static>, u32, u32, u32, usize); 40] = [
+// The last token of a text, its place, and how many tokens there are.
+type Row<'a> = (&'a [u8], Seen<'a>, u32, u32, u32, usize);
+
+// Whether the row says what the text's tokens are.
+fn is_told(alloc: Global, row: &Row<'_>) -> Result<bool, LexError> {
+    let (text, kind, start, len, line, count) = *row;
+    if text.len() > 100 {
+        return Ok(false);
+    }
+    let tokens = lex(alloc, text)?;
+    match tokens.as_slice().last() {
+        None => Ok(count == 0),
+        Some(token) => Ok(
+            shown(&token.kind) == kind
+                && (token.start, token.len, token.line) == (start, len, line)
+                && tokens.len() == count,
+        ),
+    }
+}
+
+const LAST: [Row<'static>; 41] = [
     (
         b"int main(void){return 42;}",
         Seen::Mark(Punctuator::CloseBrace),
@@ -108,25 +129,30 @@ const LAST: [(&[u8], Seen<'static>, u32, u32, u32, usize); 40] = [
         1,
         1,
     ),
+    (
+        b" /* */ // \n#include <stdio.h>",
+        Seen::Number(0, false),
+        0,
+        0,
+        0,
+        0,
+    ),
 ];
 
 #[test]
 fn tokens(rt: HostRuntime) -> Result<(), Fail> {
-    for (text, kind, start, len, line, count) in LAST {
-        assert!(rt; text.len() < 100);
-        let tokens = lex(rt.alloc(), text)?;
-        assert_eq!(rt; tokens.len(), count, "{}", text.len());
-        match tokens.as_slice().last() {
-            None => panic!(rt; "no token"),
-            Some(token) => {
-                assert!(rt; shown(&token.kind) == kind);
-                assert_eq!(rt; (token.start, token.len, token.line), (start, len, line));
-            }
-        }
+    for row in &LAST {
+        assert!(rt; is_told(rt.alloc(), row)?, "{}", row.0.len());
     }
-    let none = lex(rt.alloc(), b" /* */ // \n#include <stdio.h>")?;
-    assert_eq!(rt; none.len(), 0);
     Ok(())
+}
+
+// Why a text is refused, if it is.
+fn refusal_of(alloc: Global, text: &[u8]) -> Option<LexError> {
+    if text.len() > 2_000_000 {
+        return None;
+    }
+    lex(alloc, text).err()
 }
 
 const REFUSED: [(&[u8], LexError); 48] = [
@@ -189,18 +215,19 @@ const REFUSED: [(&[u8], LexError); 48] = [
 #[test]
 fn refusals(rt: HostRuntime) -> Result<(), Fail> {
     for (text, refusal) in REFUSED {
-        assert!(rt; text.len() < 100);
-        assert_eq!(rt; lex(rt.alloc(), text).err(), Some(refusal));
+        assert_eq!(rt; refusal_of(rt.alloc(), text), Some(refusal));
     }
-    let mut long = vec![in rt.alloc(); b' '; 1_048_576]?;
-    let tokens = lex(rt.alloc(), &long)?;
-    assert_eq!(rt; tokens.len(), 0);
-    long.push(b' ')?;
-    if long.len() == 1_048_577 {
-        assert_eq!(rt;
-            lex(rt.alloc(), &long).err(),
-            Some(LexError::TooLong { length: 1_048_577 })
-        );
+    Ok(())
+}
+
+#[test]
+fn longest_text(rt: HostRuntime) -> Result<(), Fail> {
+    for (len, refusal) in [
+        (1_048_576, None),
+        (1_048_577, Some(LexError::TooLong { length: 1_048_577 })),
+    ] {
+        let text = vec![in rt.alloc(); b' '; len]?;
+        assert_eq!(rt; refusal_of(rt.alloc(), &text), refusal);
     }
     Ok(())
 }
