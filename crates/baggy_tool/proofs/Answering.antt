@@ -144,12 +144,18 @@ builds_right laws text (Err build.Memory) b = tt
 -- ---- A run
 
 pub stop_runs : (stop : Stop) (n : ℕ) (image : Image) (before after : Streams) (s : State) → Stops stop n (start image) before.shown s after.shown → FaultCause (fault_of stop) before.input_faults after.input_faults before.output_faults after.output_faults → RunsTo (ending_of stop) n image before after
-stop_runs (stop.Exited status) n image before after s p f = record { state = s; ran = p.0; ended = p.1 }
-stop_runs (stop.Reported kind line) n image before after s p f = record { state = s; ran = p.0; ended = p.1 }
-stop_runs (stop.Trapped kind) n image before after s p f = record { state = s; ran = p.0; ended = p.1 }
-stop_runs stop.OutOfSteps n image before after s p f = record { state = s; ran = p.0; ended = p.1 }
-stop_runs stop.ReadFault n image before after s p f = (record { count = p.0; fewer = p.1; state = s; ran = p.2; call = p.3 }, f.0)
-stop_runs stop.WriteFault n image before after s p f = (record { count = p.0; fewer = p.1; state = s; ran = p.2; call = p.3 }, f.1)
+stop_runs stop n image before after s p f = record { stop = stop; is = refl; state = s; stops = p; cause = f }
+
+no_note_fault : (n : ℕ) (image : Image) (before after : Streams) → RunsTo ending.NoteFault n image before after → ⊥
+no_note_fault n image before after h = by h.stop h.is
+  where
+    by : (stop : Stop) → ending.NoteFault ≡ ending_of stop → ⊥
+    by (stop.Exited status) e = absurd (cc)
+    by (stop.Reported kind line) e = absurd (cc)
+    by (stop.Trapped kind) e = absurd (cc)
+    by stop.OutOfSteps e = absurd (cc)
+    by stop.ReadFault e = absurd (cc)
+    by stop.WriteFault e = absurd (cc)
 
 -- the answer of a text whose image was run, or lacked memory for that
 pub text_runs : (text : List ℕ) (n : ℕ) (image : Image) (before after : Streams) (same : Option Image) (e : Ending) → IsImageOf text image → RunsImage image n before after same e → AnswersRun text n before after same e
@@ -244,9 +250,9 @@ no_fault_before : (r : Option Request) (before after : Files) (old new : Streams
 no_fault_before None before after old new None h = h
 no_fault_before None before after old new (Some image) h = h
 no_fault_before (Some (Run file n)) before after old new None h = h.answers
-no_fault_before (Some (Run file n)) before after old new (Some image) h = h.answers.1
+no_fault_before (Some (Run file n)) before after old new (Some image) h = no_note_fault n image old new h.answers.1
 no_fault_before (Some (Exec file n)) before after old new None h = h.answers
-no_fault_before (Some (Exec file n)) before after old new (Some image) h = h.answers.1
+no_fault_before (Some (Exec file n)) before after old new (Some image) h = no_note_fault n image old new h.answers.1
 no_fault_before (Some (Compile file path)) before after old new None h = h.answers.0
 no_fault_before (Some (Compile file path)) before after old new (Some image) h = h.answers.0.1
 

@@ -56,45 +56,31 @@ done laws c d i text fits w goes quiet =
     let both = laws.done c i text.low text.high fits w in
     record { goes = both.0 ∙ goes; tells = both.1 ∙ quiet }
 
-lui_word : (rd n : ℕ) → n < 2 ^ 20 → n * 4096 + rd * 128 + 55 ≡ word_of (Lui rd (n * 4096))
-lui_word rd n h = omega arith
-
 -- lui rd, n
-pub lui_done : MachineLaws → (c : Core) (rd n : ℕ) → IsInText c → 0 < rd → rd < 32 → n < 2 ^ 20 → word_at c.memory c.pc ≡ n * 4096 + rd * 128 + 55 → Quiet c (gives rd (n * 4096) c)
+pub lui_done : MachineLaws → (c : Core) (rd n : ℕ) → IsInText c → 0 < rd → rd < 32 → n < 2 ^ 20 → word_at c.memory c.pc ≡ word_of (Lui rd (n * 4096)) → Quiet c (gives rd (n * 4096) c)
 lui_done laws c rd n text some r h w =
     let e : eqb rd 0 ≡ false = grind (arith, nat_tests) in
-    done laws c _ (Lui rd (n * 4096)) text (omega arith, omega arith, r) (w ∙ lui_word rd n h) refl (rw e refl)
+    done laws c _ (Lui rd (n * 4096)) text (omega arith, omega arith, r) w refl (rw e refl)
 
--- the word of an immediate of 12 bits
-extended_fits : (n : ℕ) → n < 4096 → IsSigned 12 (extended 12 n) × (extended 12 n % 4096 ≡ n)
+-- an immediate of 12 bits
+extended_fits : (n : ℕ) → n < 4096 → IsSigned 12 (extended 12 n)
 extended_fits n h = grind (arith, nat_tests)
 
-addi_word : (rd rs1 n : ℕ) → n < 4096 → n * 1048576 + rs1 * 32768 + rd * 128 + 19 ≡ word_of (Addi rd rs1 (extended 12 n))
-addi_word rd rs1 n h =
-    let e : extended 12 n % 4096 ≡ n = (extended_fits n h).1 in
-    omega (arith, e)
-
 -- addi rd, rs1, n
-pub addi_done : MachineLaws → (c : Core) (rd rs1 n : ℕ) → IsInText c → rd < 32 → rs1 < 32 → n < 4096 → word_at c.memory c.pc ≡ n * 1048576 + rs1 * 32768 + rd * 128 + 19 → Quiet c (gives rd (sum (register_of c rs1) (extended 12 n)) c)
+pub addi_done : MachineLaws → (c : Core) (rd rs1 n : ℕ) → IsInText c → rd < 32 → rs1 < 32 → n < 4096 → word_at c.memory c.pc ≡ word_of (Addi rd rs1 (extended 12 n)) → Quiet c (gives rd (sum (register_of c rs1) (extended 12 n)) c)
 addi_done laws c rd rs1 n text r s h w =
-    done laws c _ (Addi rd rs1 (extended 12 n)) text ((extended_fits n h).0, s, r) (w ∙ addi_word rd rs1 n h) refl refl
-
-add_word : (rd rs1 rs2 : ℕ) → rs2 * 1048576 + rs1 * 32768 + rd * 128 + 51 ≡ word_of (Add rd rs1 rs2)
-add_word rd rs1 rs2 = omega arith
+    done laws c _ (Addi rd rs1 (extended 12 n)) text (extended_fits n h, s, r) w refl refl
 
 -- add rd, rs1, rs2
-pub add_done : MachineLaws → (c : Core) (rd rs1 rs2 : ℕ) → IsInText c → 0 < rd → rd < 32 → rs1 < 32 → rs2 < 32 → word_at c.memory c.pc ≡ rs2 * 1048576 + rs1 * 32768 + rd * 128 + 51 → Quiet c (gives rd (sum (register_of c rs1) (register_of c rs2)) c)
+pub add_done : MachineLaws → (c : Core) (rd rs1 rs2 : ℕ) → IsInText c → 0 < rd → rd < 32 → rs1 < 32 → rs2 < 32 → word_at c.memory c.pc ≡ word_of (Add rd rs1 rs2) → Quiet c (gives rd (sum (register_of c rs1) (register_of c rs2)) c)
 add_done laws c rd rs1 rs2 text some r s t w =
     let e : eqb rd 0 ≡ false = grind (arith, nat_tests) in
-    done laws c _ (Add rd rs1 rs2) text (t, s, r) (w ∙ add_word rd rs1 rs2) refl (rw e refl)
-
-sub_word : (rd rs1 rs2 : ℕ) → 1073741824 + rs2 * 1048576 + rs1 * 32768 + rd * 128 + 51 ≡ word_of (Sub rd rs1 rs2)
-sub_word rd rs1 rs2 = omega arith
+    done laws c _ (Add rd rs1 rs2) text (t, s, r) w refl (rw e refl)
 
 -- sub rd, rs1, rs2
-pub sub_done : MachineLaws → (c : Core) (rd rs1 rs2 : ℕ) → IsInText c → rd < 32 → rs1 < 32 → rs2 < 32 → word_at c.memory c.pc ≡ 1073741824 + rs2 * 1048576 + rs1 * 32768 + rd * 128 + 51 → Quiet c (gives rd (difference (register_of c rs1) (register_of c rs2)) c)
-sub_done laws c rd rs1 rs2 text r s t w = done laws c _ (Sub rd rs1 rs2) text (t, s, r) (w ∙ sub_word rd rs1 rs2) refl refl
+pub sub_done : MachineLaws → (c : Core) (rd rs1 rs2 : ℕ) → IsInText c → rd < 32 → rs1 < 32 → rs2 < 32 → word_at c.memory c.pc ≡ word_of (Sub rd rs1 rs2) → Quiet c (gives rd (difference (register_of c rs1) (register_of c rs2)) c)
+sub_done laws c rd rs1 rs2 text r s t w = done laws c _ (Sub rd rs1 rs2) text (t, s, r) w refl refl
 
 -- ecall
-pub ecall_asks : MachineLaws → (c : Core) → IsInText c → word_at c.memory c.pc ≡ 115 → core_step c ≡ Asks
+pub ecall_asks : MachineLaws → (c : Core) → IsInText c → word_at c.memory c.pc ≡ word_of Ecall → core_step c ≡ Asks
 ecall_asks laws c text w = (laws.done c Ecall text.low text.high (lit< tt, lit< tt, lit< tt) w).0

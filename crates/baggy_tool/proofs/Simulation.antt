@@ -7,7 +7,8 @@ use Rattle.std.proofs.lemmas.List.{length-replicate}
 use Rattle.std.proofs.lemmas.List.Elements.{All-from_recursion}
 use Rattle.std.specs.List.{AllByRecursion}
 use Rattle.bb_words.specs.Numbers.{sum, difference}
-use Rattle.rv_code.specs.Bits.{extended}
+use Rattle.rv_code.specs.Code.{word_of}
+use Rattle.rv_code.specs.declared.instr.Instr.TheVariants.{Add, Sub}
 use Rattle.rv_image.specs.declared.image.Image.{Image}
 use Rattle.rv_machine.specs.declared.stop.Halt.{Halt}
 use Rattle.rv_machine.specs.declared.stop.Halt.TheVariants.{Exited}
@@ -21,7 +22,7 @@ use Rattle.rv_machine.specs.Machine.{step, steps, machine_after, IsBeforeCall}
 use Rattle.rv_machine.specs.Start.{start, start_memory, start_registers, fresh}
 use Rattle.baggy_tool.specs.declared.form.Summand.{Summand}
 use Rattle.baggy_tool.specs.Form.{with_summand, sum_from}
-use Rattle.baggy_tool.specs.Code.{summand_words, sum_words, exit_words, IsCompiled}
+use Rattle.baggy_tool.specs.Code.{lower_part, summand_words, sum_words, exit_words, IsCompiled}
 use Rattle.baggy_tool.proofs.Machine.{MachineLaws, Quiet, steps_none, one_is, step_acts, lui_done, addi_done, add_done, sub_done, ecall_asks}
 
 abbrev core_at : ℕ → List ℕ → List ℕ → Core
@@ -75,11 +76,7 @@ goes c d input told quiet = record {
       no_call c d number (steps k w).machine quiet.goes (ap (λ (n : ℕ). (steps n w).machine.core) first ∙ ap (λ (x : World). x.machine.core) (steps_none w)) before;
 }
 
--- the immediate of 12 bits
-abbrev low_part : ℕ → ℕ
-low_part v = extended 12 (v % 4096)
-
-parts_sum : (v : ℕ) → v ≤ 2147483647 → ((v + 2048) / 4096 * 4096 + low_part v) % 2 ^ 32 ≡ v
+parts_sum : (v : ℕ) → v ≤ 2147483647 → ((v + 2048) / 4096 * 4096 + lower_part v) % 2 ^ 32 ≡ v
 parts_sum v h = by (ltb (v % 4096) 2048) refl
   where
     by : (b : Bool) → ltb (v % 4096) 2048 ≡ b → ((v + 2048) / 4096 * 4096 + cond b (v % 4096) (v % 4096 + 4294963200)) % 2 ^ 32 ≡ v
@@ -96,7 +93,7 @@ record Registers (r : List ℕ) (total : ℕ) : Type 0 where
 abbrev combined_registers : Bool → List ℕ → ℕ
 combined_registers minus r = cond minus (difference (get_or r 10 0) (get_or r 11 0)) (sum (get_or r 10 0) (get_or r 11 0))
 
-last_step : MachineLaws → (minus : Bool) (m r : List ℕ) (pc : ℕ) → 4096 ≤ pc → pc < 2097152 → word_at m pc ≡ cond minus 1085605171 11863347 → Quiet (core_at pc r m) (core_at (pc + 4) (set r 10 (combined_registers minus r)) m)
+last_step : MachineLaws → (minus : Bool) (m r : List ℕ) (pc : ℕ) → 4096 ≤ pc → pc < 2097152 → word_at m pc ≡ word_of (cond minus (Sub 10 10 11) (Add 10 10 11)) → Quiet (core_at pc r m) (core_at (pc + 4) (set r 10 (combined_registers minus r)) m)
 last_step laws true m r pc low high h = sub_done laws (core_at pc r m) 10 10 11 (record { low = low; high = high }) (lit< tt) (lit< tt) (lit< tt) h
 last_step laws false m r pc low high h = add_done laws (core_at pc r m) 10 10 11 (record { low = low; high = high }) (lit< tt) (lit< tt) (lit< tt) (lit< tt) h
 
@@ -107,12 +104,12 @@ pair_of e f = cc
 summand_registers : (s : Summand) (r : List ℕ) (total : ℕ) → Registers r total → s.value ≤ 2147483647 →
     let hi = (s.value + 2048) / 4096 * 4096 in
     let r1 = set r 11 hi in
-    let r2 = set r1 11 ((get_or r1 11 0 + low_part s.value) % 2 ^ 32) in
+    let r2 = set r1 11 ((get_or r1 11 0 + lower_part s.value) % 2 ^ 32) in
     Registers (set r2 10 (combined_registers s.minus r2)) (with_summand total s)
 summand_registers s r total k small =
     let v = s.value in
     let hi = (v + 2048) / 4096 * 4096 in
-    let lo = low_part v in
+    let lo = lower_part v in
     let r1 = set r 11 hi in
     let r2 = set r1 11 ((get_or r1 11 0 + lo) % 2 ^ 32) in
     let new = combined_registers s.minus r2 in
@@ -140,24 +137,16 @@ record Arrives (n pc total : ℕ) (ws m r : List ℕ) (from : ℕ) (input : List
   run : GoesOn n (world (core_at from r m) input told) (world (core_at pc registers m) input told)
   words : Stand m pc ws
 
-lui_word : (n : ℕ) → n * 4096 + 1463 ≡ n * 4096 + 11 * 128 + 55
-lui_word n = omega arith
-
-addi_word : (n : ℕ) → n * 1048576 + 361875 ≡ n * 1048576 + 11 * 32768 + 11 * 128 + 19
-addi_word n = omega arith
-
 summand_runs : MachineLaws → (s : Summand) (ws m r : List ℕ) (pc total : ℕ) (input : List ℕ) (told : List Tell) → Registers r total → s.value ≤ 2147483647 → 4096 ≤ pc → pc + 12 ≤ 2097152 → Stand m pc (summand_words s ++ ws) → Arrives 3 (pc + 12) (with_summand total s) ws m r pc input told
 summand_runs laws s ws m r pc total input told k small low high h =
     let v = s.value in
     let hi = (v + 2048) / 4096 * 4096 in
-    let lo = low_part v in
+    let lo = lower_part v in
     let r1 = set r 11 hi in
     let r2 = set r1 11 ((get_or r1 11 0 + lo) % 2 ^ 32) in
     let r3 = set r2 10 (combined_registers s.minus r2) in
-    let w1 = h.0 ∙ lui_word ((v + 2048) / 4096) in
-    let w2 = h.1.0 ∙ addi_word (v % 4096) in
-    let e1 = goes (core_at pc r m) (core_at (pc + 4) r1 m) input told (lui_done laws (core_at pc r m) 11 ((v + 2048) / 4096) (record { low = low; high = omega arith }) (lit< tt) (lit< tt) (omega arith) w1) in
-    let e2 = goes (core_at (pc + 4) r1 m) (core_at (pc + 4 + 4) r2 m) input told (addi_done laws (core_at (pc + 4) r1 m) 11 11 (v % 4096) (record { low = omega arith; high = omega arith }) (lit< tt) (lit< tt) (omega arith) w2) in
+    let e1 = goes (core_at pc r m) (core_at (pc + 4) r1 m) input told (lui_done laws (core_at pc r m) 11 ((v + 2048) / 4096) (record { low = low; high = omega arith }) (lit< tt) (lit< tt) (omega arith) h.0) in
+    let e2 = goes (core_at (pc + 4) r1 m) (core_at (pc + 4 + 4) r2 m) input told (addi_done laws (core_at (pc + 4) r1 m) 11 11 (v % 4096) (record { low = omega arith; high = omega arith }) (lit< tt) (lit< tt) (omega arith) h.1.0) in
     let e3 = goes (core_at (pc + 4 + 4) r2 m) (core_at (pc + 4 + 4 + 4) r3 m) input told (last_step laws s.minus m r2 (pc + 4 + 4) (omega arith) (omega arith) h.1.1.0) in
     let p : pc + 4 + 4 + 4 ≡ pc + 12 = omega arith in
     let start = world (core_at pc r m) input told in
@@ -249,7 +238,7 @@ are_words : (ss : List Summand) → AreSmall ss → AllByRecursion IsWord (sum_w
 are_words [] h = (lit< tt, (lit< tt, tt))
 are_words (s ∷ ss) h = (omega (arith, h.0), (omega (arith, h.0), (by s.minus, are_words ss h.1)))
   where
-    by : (b : Bool) → cond b 1085605171 11863347 < 2 ^ 32
+    by : (b : Bool) → word_of (cond b (Sub 10 10 11) (Add 10 10 11)) < 2 ^ 32
     by true = lit< tt
     by false = lit< tt
 

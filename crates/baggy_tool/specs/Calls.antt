@@ -8,18 +8,16 @@ use Rattle.rv_image.specs.declared.error.ImageError.TheVariants.{Memory}
 use Rattle.rv_image.specs.Reading.{image_of}
 use Rattle.rv_image.specs.Rules.{IsImage}
 use Rattle.rv_image.specs.Spelling.{spelling}
-use Rattle.rv_machine.specs.declared.stop.Halt.{Halt}
-use Rattle.rv_machine.specs.declared.stop.Halt.TheVariants as halt
+use Rattle.rv_machine.specs.declared.stop.Stop.{Stop}
 use Rattle.rv_machine.specs.State.{State}
-use Rattle.rv_machine.specs.Machine.{steps, IsBeforeCall}
 use Rattle.rv_machine.specs.Start.{start}
-use Rattle.rv_machine.specs.Runs.{Ran, Shown}
+use Rattle.rv_machine.specs.Runs.{Shown, Stops, FaultCause, fault_of}
 use Rattle.baggy_tool.specs.declared.ending.Ended.{Ended}
 use Rattle.baggy_tool.specs.declared.ending.Ending.{Ending}
-use Rattle.baggy_tool.specs.declared.ending.Ending.TheVariants.{Exited, Reported, Trapped, OutOfSteps, Wrote, Refused, Usage, NoFile, FileFault, ReadFault, WriteFault, NoteFault, NoMemory}
+use Rattle.baggy_tool.specs.declared.ending.Ending.TheVariants.{Wrote, Refused, Usage, NoFile, FileFault, NoteFault, NoMemory}
 use Rattle.baggy_tool.specs.declared.ending.Refusal.TheVariants as refusal
 use Rattle.baggy_tool.specs.Accepted.{Refuses, IsImageOf}
-use Rattle.baggy_tool.specs.Endings.{status_of, line_of}
+use Rattle.baggy_tool.specs.Endings.{status_of, ending_of, line_of}
 use Rattle.baggy_tool.specs.Files.{most_source, most_image, IsFile, IsAbsent}
 use Rattle.baggy_tool.specs.Notes.{IsAppended, IsCutOff}
 use Rattle.baggy_tool.specs.Words.{Request, Run, Exec, Compile, request_of}
@@ -54,29 +52,13 @@ noting written faults = record { written = written; faults = faults }
 
 -- ---- A run
 
--- after so many instructions the image's machine has ended so, if at all
-pub record Ends (ending : Option Halt) (n : ℕ) (image : Image) (before after : Streams) : Type 0 where
+-- a run of at most n instructions of the image's machine came back for a cause that makes the call end so
+pub record RunsTo (ending : Ending) (n : ℕ) (image : Image) (before after : Streams) : Type 0 where
+  pub stop : Stop
+  pub is : ending ≡ ending_of stop
   pub state : State
-  pub ran : Ran (steps n) (start image) before.shown state after.shown
-  pub ended : state.ending ≡ ending
-
--- after fewer instructions it stands before the environment call of this number, which could not be done
-pub record Stands (number n : ℕ) (image : Image) (before after : Streams) : Type 0 where
-  pub count : ℕ
-  pub fewer : count < n
-  pub state : State
-  pub ran : Ran (steps count) (start image) before.shown state after.shown
-  pub call : IsBeforeCall number state
-
--- how a run of at most n instructions ends
-abbrev pub RunsTo : Ending → ℕ → Image → Streams → Streams → Type 0
-RunsTo (Exited status) n image before after = Ends (Some (halt.Exited status)) n image before after
-RunsTo (Reported kind line) n image before after = Ends (Some (halt.Reported kind line)) n image before after
-RunsTo (Trapped kind) n image before after = Ends (Some (halt.Trapped kind)) n image before after
-RunsTo OutOfSteps n image before after = Ends None n image before after
-RunsTo ReadFault n image before after = Stands 2 n image before after × Rose before.input_faults after.input_faults
-RunsTo WriteFault n image before after = Stands 3 n image before after × Rose before.output_faults after.output_faults
-RunsTo ending n image before after = ⊥
+  pub stops : Stops stop n (start image) before.shown state after.shown
+  pub cause : FaultCause (fault_of stop) before.input_faults after.input_faults before.output_faults after.output_faults
 
 -- ---- The modes, by the bytes that were read of FILE
 

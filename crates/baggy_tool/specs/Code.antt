@@ -1,21 +1,34 @@
--- The words that compute a sum, and their image.
-use Rattle.std.specs.Prelude.{◌≡◌, ℕ, ◌+◌, ◌*◌, ◌/◌, ◌%◌, if◌then◌else◌, List, [], ◌∷◌, ◌++◌}
+-- The instructions that compute a sum, and their image.
+use Rattle.std.specs.Prelude.{◌≡◌, ℕ, ◌+◌, ◌*◌, ◌/◌, ◌%◌, if◌then◌else◌, map, List, [], ◌∷◌, ◌++◌}
+use Rattle.rv_code.specs.Bits.{extended}
+use Rattle.rv_code.specs.Code.{word_of}
+use Rattle.rv_code.specs.declared.instr.Instr.{Instr}
+use Rattle.rv_code.specs.declared.instr.Instr.TheVariants.{Lui, Addi, Add, Sub, Ecall}
 use Rattle.rv_image.specs.declared.image.Image.{Image}
+use Rattle.size_table.specs.declared.calls.TheConstants.{EXIT}
 use Rattle.baggy_tool.specs.declared.form.Summand.{Summand}
 
--- lui x11, hi; addi x11, x11, lo; add or sub x10, x10, x11: the number is added to x10, or subtracted from it. The
--- upper part is one more where the lower 12 bits are read as a negative number.
+-- a number in two parts: its lower 12 bits with a sign, and a multiple of 2^12, which is one more where these are negative
+abbrev pub lower_part : ℕ → ℕ
+lower_part n = extended 12 (n % 4096)
+
+abbrev pub upper_part : ℕ → ℕ
+upper_part n = (n + 2048) / 4096 * 4096
+
+-- x11 gets the number, and is added to x10 or subtracted from it
+abbrev pub summand_code : Summand → List Instr
+summand_code s = Lui 11 (upper_part s.value) ∷ Addi 11 11 (lower_part s.value) ∷ (if s.minus then Sub 10 10 11 else Add 10 10 11) ∷ []
+
 abbrev pub summand_words : Summand → List ℕ
-summand_words s =
-    ((s.value + 2048) / 4096 * 4096 + 1463) ∷ (s.value % 4096 * 1048576 + 361875) ∷ (if s.minus then 1085605171 else 11863347) ∷ []
+summand_words s = map word_of (summand_code s)
 
 abbrev pub sum_words : List Summand → List ℕ
 sum_words [] = []
 sum_words (s ∷ summands) = summand_words s ++ sum_words summands
 
--- addi x17, x0, 1; ecall: exit with x10
+-- exit with x10
 abbrev pub exit_words : List ℕ
-exit_words = 1050771 ∷ 115 ∷ []
+exit_words = map word_of (Addi 17 0 EXIT ∷ Ecall ∷ [])
 
 -- the image of a sum
 pub record IsCompiled (summands : List Summand) (image : Image) : Type 0 where
