@@ -1,5 +1,6 @@
-//! Tests of the middle of the compiler, from the typed tree to flat code.
+//! The middle of the compiler put together: programs go from the typed tree to flat code.
 #![tactic(auto)]
 
+pub mod laws;
 #[cfg(test)]
 mod tests;
