@@ -33,9 +33,9 @@ comparable (x ∷ xs) (y ∷ ys) zs rs ss e f =
     let head : x ≡ y = cc in
     let tail : xs ++ rs ≡ ys ++ ss = cc in
     ⊎_elim
-      (λ h. inl (record { rest = h.rest; is = let q : x ∷ xs ≡ y ∷ (ys ++ h.rest) = ap (λ z. z ∷ xs) head ∙ ap (λ l. y ∷ l) h.is in q }))
-      (λ h. inr (record { rest = h.rest; is = let q : y ∷ ys ≡ x ∷ (xs ++ h.rest) = ap (λ z. z ∷ ys) (sym head) ∙ ap (λ l. x ∷ l) h.is in q }))
-      (comparable xs ys (xs ++ rs) rs ss refl tail)
+    (λ h. inl (record { rest = h.rest; is = let q : x ∷ xs ≡ y ∷ (ys ++ h.rest) = ap (λ z. z ∷ xs) head ∙ ap (λ l. y ∷ l) h.is in q }))
+    (λ h. inr (record { rest = h.rest; is = let q : y ∷ ys ≡ x ∷ (xs ++ h.rest) = ap (λ z. z ∷ ys) (sym head) ∙ ap (λ l. x ∷ l) h.is in q }))
+    (comparable xs ys (xs ++ rs) rs ss refl tail)
 
 -- ---- What flat code says of the source
 
@@ -147,9 +147,10 @@ module _ (laws : FrontLaws) (safe : SafeSites) where
         ((after n).machine.ending ≡ halt_of (meant n).ending) × (output (after n) ≡ (meant n).state.world.output)
     halts_only_of n h halted =
         let r = runs.halts_only n halted in
-        let says = inside_beside safe (meant n).ending (meant n).state.world (cost (meant n).state) (flats n) h (beside n) in
-        (r.1 ∙ halted_beside safe (meant n).ending (meant n).state.world (cost (meant n).state) (flats n) h r.0 (beside n),
-          (all_of (after n) (meant n).state.world (flats n).point.world.told says r.2).output)
+        let says = inside_beside safe (meant n).ending (meant n).state.world (cost (meant n).state) (flats n) h (beside n) in (
+          r.1 ∙ halted_beside safe (meant n).ending (meant n).state.world (cost (meant n).state) (flats n) h r.0 (beside n),
+          (all_of (after n) (meant n).state.world (flats n).point.world.told says r.2).output,
+        )
 
     outside_of : (n : ℕ) → IsOutside (meant n).ending →
         (((after n).machine.ending ≡ None) × TellsUpTo safe (after n) (meant n).state.world) ⊎ TellsFrom safe (after n) (meant n).state.world
@@ -169,9 +170,9 @@ module _ (laws : FrontLaws) (safe : SafeSites) where
         by_ending None e =
             let c = runs.no_more n in
             ⊎_elim
-              (λ k. inr (tells_from (after n) s b.0 b.2 k))
-              (λ k. inl (e, up_to (after n) s b.0 b.2 k))
-              (comparable (shared (after n).told) (tells b.0) (tells (flats n).point.world.told) c.rest began.rest c.is began.is)
+            (λ k. inr (tells_from (after n) s b.0 b.2 k))
+            (λ k. inl (e, up_to (after n) s b.0 b.2 k))
+            (comparable (shared (after n).told) (tells b.0) (tells (flats n).point.world.told) c.rest began.rest c.is began.is)
         by_ending (Some x) e =
             let r = runs.halts_only n (subst IsSome (sym e) refl) in
             inr (tells_from (after n) s b.0 b.2 (record { rest = began.rest; is = r.2 ∙ began.is }))

@@ -73,16 +73,16 @@ module _ (laws : Laws) (p : CProgram) (code : Program) (safe : SafeSites) (fcode
   same : (input : List ℕ) → All IsByte input → Same (meaning.outcome (slot_of image) p input) safe (machine_after image input)
   same input fine =
       same_of laws.fronts safe (machine.global_blocks image) (meaning.outcome (slot_of image) p input) (λ m. outcome_of (run input m)) (machine_after image input)
-        (λ m. agrees_beside laws.fronts.later safe (meaning.outcome (slot_of image) p input m) (mid.outcome (slot_of image) code input m) (run input m) (layers.lowered.runs (slot_of image) input m) (layers.kept input m fine))
-        (layers.runs input fine)
-        (λ m. subst (λ w. SafeSitesHold safe w.objects w.trail) (layers.lowered.runs (slot_of image) input m).world (layers.sites input m fine))
+      (λ m. agrees_beside laws.fronts.later safe (meaning.outcome (slot_of image) p input m) (mid.outcome (slot_of image) code input m) (run input m) (layers.lowered.runs (slot_of image) input m) (layers.kept input m fine))
+      (layers.runs input fine)
+      (λ m. subst (λ w. SafeSitesHold safe w.objects w.trail) (layers.lowered.runs (slot_of image) input m).world (layers.sites input m fine))
 
   safely : (input : List ℕ) (n : ℕ) → All IsByte input → SafeRun (slot_of image) image input n
   safely input n fine k le =
       is_safe laws.table laws.safe_appends image layers.rules layers.bytes (λ m. outcome_of (run input m))
-        (λ m. ends_safely (run input m) (laws.traps (slot_of image) fcode (global_blocks (slot_of image) code) (frames_of (slot_of image) code) input m))
-        (λ m. subst (λ bs. AllSafe (slot_of image) bs bs (tells (outcome_of (run input m)).point.world.told)) (sym layers.globals) (verified m))
-        input fine (layers.runs input fine) k
+      (λ m. ends_safely (run input m) (laws.traps (slot_of image) fcode (global_blocks (slot_of image) code) (frames_of (slot_of image) code) input m))
+      (λ m. subst (λ bs. AllSafe (slot_of image) bs bs (tells (outcome_of (run input m)).point.world.told)) (sym layers.globals) (verified m))
+      input fine (layers.runs input fine) k
     where
       of_point : (r : flat.Run (Unit {0})) (bs : List Block) → AllSafe (slot_of image) bs bs (tells (point_of r).world.told) → AllSafe (slot_of image) bs bs (tells (outcome_of r).point.world.told)
       of_point (Answer.Goes a u) bs h = h
@@ -91,7 +91,7 @@ module _ (laws : Laws) (p : CProgram) (code : Program) (safe : SafeSites) (fcode
       verified : (m : ℕ) → AllSafe (slot_of image) (global_blocks (slot_of image) code) (global_blocks (slot_of image) code) (tells (outcome_of (run input m)).point.world.told)
       verified m =
           of_point (run input m) (global_blocks (slot_of image) code)
-            (laws.disciplined (slot_of image) fcode (global_blocks (slot_of image) code) (frames_of (slot_of image) code) input m (omega arith) (omega arith) layers.layout layers.frames layers.disciplined).safe
+          (laws.disciplined (slot_of image) fcode (global_blocks (slot_of image) code) (frames_of (slot_of image) code) input m (omega arith) (omega arith) layers.layout layers.frames layers.disciplined).safe
 
   right : Right (slot_of image) p safe image
   right = record { rules = layers.rules; bytes = layers.bytes; words = layers.words; safely = safely; same = same }

@@ -53,10 +53,10 @@ safe_shared g live ever (told.Output byte ∷ ts) h = safe_shared g live ever ts
 safe_shared g live ever (told.Happens (event.Move pc from to) ∷ ts) h = let r = safe_shared g live ever ts h.1 in ((h.0, r.0), (tt, r.1))
 safe_shared g live ever (told.Happens (event.Access pc at size write base) ∷ ts) h =
     either_way ((base == 2) || (base == 31)) (flat.Tell.Access at size write ∷ [])
-      (λ l. AllSafe g live ever (l ++ shared ts) → AreSafe g live ever (event.Access pc at size write base ∷ told.events_of ts))
-      (λ e k. let r = safe_shared g live ever ts k in ((tt, r.0), ((λ two other. absurd (by_two base e two other)), r.1)))
-      (λ e k. let r = safe_shared g live ever ts k.1 in ((tt, r.0), ((λ two other. k.0), r.1)))
-      h
+    (λ l. AllSafe g live ever (l ++ shared ts) → AreSafe g live ever (event.Access pc at size write base ∷ told.events_of ts))
+    (λ e k. let r = safe_shared g live ever ts k in ((tt, r.0), ((λ two other. absurd (by_two base e two other)), r.1)))
+    (λ e k. let r = safe_shared g live ever ts k.1 in ((tt, r.0), ((λ two other. k.0), r.1)))
+    h
 safe_shared g live ever (told.Happens (event.Call pc target) ∷ ts) h = let r = safe_shared g live ever ts h in ((tt, r.0), (tt, r.1))
 safe_shared g live ever (told.Happens (event.Return pc target) ∷ ts) h = let r = safe_shared g live ever ts h in ((tt, r.0), (tt, r.1))
 safe_shared g live ever (told.Happens (event.Made at exponent) ∷ ts) h = let r = safe_shared g (live_after (event.Made at exponent) live) (ever_after (event.Made at exponent) ever) ts h.1 in ((tt, r.0), (tt, r.1))

@@ -26,9 +26,9 @@ front_of (y ∷ ys) (f ∷ fs) rs x e =
     let head : y ≡ f = cc in
     let tail : ys ++ x ∷ [] ≡ fs ++ rs = cc in
     ⊎_elim
-      (λ h. inl (h.0, ap (λ z. z ∷ ys) head ∙ ap (λ l. f ∷ l) h.1))
-      (λ h. inr (ap (λ l. f ∷ l) h ∙ ap (λ z. z ∷ (ys ++ x ∷ [])) (sym head)))
-      (front_of ys fs rs x tail)
+    (λ h. inl (h.0, ap (λ z. z ∷ ys) head ∙ ap (λ l. f ∷ l) h.1))
+    (λ h. inr (ap (λ l. f ∷ l) h ∙ ap (λ z. z ∷ (ys ++ x ∷ [])) (sym head)))
+    (front_of ys fs rs x tail)
 
 pub by_last : (n : ℕ) (xs ys : List Stamped) → AllBy n (xs ++ ys) → AllBy n ys
 by_last n [] ys h = h

@@ -39,12 +39,12 @@ shared_begins grows w n k le = let b = told_begins grows w n k le in record { re
 pub kept_more : ToldGrows → KeptMore
 kept_more grows w told x k kept soon said n front c =
     ⊎_elim
-      (λ h. kept n front (record { rest = h.0; is = h.1; by = c.by }))
-      (λ h.
-        let late = by_last n told (x ∷ []) (subst (AllBy n) h c.by) in
-        let b = shared_begins grows w k n (omega (arith, soon, late.0)) in
-        record { rest = b.rest; is = b.is ∙ ap (λ l. l ++ b.rest) (said ∙ ap tells (sym h)) })
-      (front_of told front c.rest x c.is)
+    (λ h. kept n front (record { rest = h.0; is = h.1; by = c.by }))
+    (λ h.
+    let late = by_last n told (x ∷ []) (subst (AllBy n) h c.by) in
+    let b = shared_begins grows w k n (omega (arith, soon, late.0)) in
+    record { rest = b.rest; is = b.is ∙ ap (λ l. l ++ b.rest) (said ∙ ap tells (sym h)) })
+    (front_of told front c.rest x c.is)
 
 some_front : (o : Option (List ℕ)) (ys : List _) → IsSome (open_on o ys) → IsSome o
 some_front None ys h = h
@@ -80,14 +80,14 @@ module _ (laws : Laws) (globals : List Block) (flat : ℕ → Outcome) (w : Worl
   at n =
       let l = lands n in
       ⊎_elim
-        (λ cut. inl (let so = subst (λ e. LandsSo e n (flat n).point.world.time l.steps (steps l.steps w).machine.ending) cut l.so in so.0))
-        (λ not.
-          let so = ended_so (flat n).ending n (flat n).point.world.time l.steps (steps l.steps w).machine.ending not l.so in
-          ⊎_elim
-            (λ lt. inl (omega (arith, lt)))
-            (λ ge. inr (laws.stays n l.steps w (subst IsSome (sym so.1) so.2) ge))
-            (cases_lt n l.steps))
-        (by_ending (flat n).ending)
+      (λ cut. inl (let so = subst (λ e. LandsSo e n (flat n).point.world.time l.steps (steps l.steps w).machine.ending) cut l.so in so.0))
+      (λ not.
+      let so = ended_so (flat n).ending n (flat n).point.world.time l.steps (steps l.steps w).machine.ending not l.so in
+      ⊎_elim
+      (λ lt. inl (omega (arith, lt)))
+      (λ ge. inr (laws.stays n l.steps w (subst IsSome (sym so.1) so.2) ge))
+      (cases_lt n l.steps))
+      (by_ending (flat n).ending)
 
   ends_of : (m n : ℕ) → (flat m).ending ≢ Ending.Cut → (flat m).point.world.time ≤ n →
       ((steps n w).machine.ending ≡ halt_of (flat m).ending) × (shared (steps n w).told ≡ tells (flat m).point.world.told)
@@ -101,18 +101,18 @@ module _ (laws : Laws) (globals : List Block) (flat : ℕ → Outcome) (w : Worl
   no_more_of n =
       let l = lands n in
       subst (λ ts. Begins ts (shared (steps n w).told)) l.said
-        (⊎_elim
-          (λ le. shared_begins laws.grows w n l.steps le)
-          (λ e. record { rest = []; is = ap (λ v. shared v.told) (sym e) ∙ sym (append-nil (shared (steps n w).told)) })
-          (at n))
+      (⊎_elim
+      (λ le. shared_begins laws.grows w n l.steps le)
+      (λ e. record { rest = []; is = ap (λ v. shared v.told) (sym e) ∙ sym (append-nil (shared (steps n w).told)) })
+      (at n))
 
   control_of : ControlLaws → (n : ℕ) → KeepsControl globals (steps n w)
   control_of control n =
       let l = lands n in
       ⊎_elim
-        (λ le. control_before control globals (steps n w) (steps l.steps w) (told_begins laws.grows w n l.steps le) l.control)
-        (λ e. subst (KeepsControl globals) (sym e) l.control)
-        (at n)
+      (λ le. control_before control globals (steps n w) (steps l.steps w) (told_begins laws.grows w n l.steps le) l.control)
+      (λ e. subst (KeepsControl globals) (sym e) l.control)
+      (at n)
 
   not_none : (halt : Option Halt) → IsSome halt → halt ≡ None → ⊥
   not_none None h e = let r : ⊥ = cc in r
@@ -123,24 +123,24 @@ module _ (laws : Laws) (globals : List Block) (flat : ℕ → Outcome) (w : Worl
   halts_only_of n halted =
       let l = lands n in
       ⊎_elim
-        (λ cut.
-          let so = subst (λ e. LandsSo e n (flat n).point.world.time l.steps (steps l.steps w).machine.ending) cut l.so in
-          let same = laws.stays l.steps n w halted so.0 in
-          absurd (not_none (steps n w).machine.ending halted (ap (λ v. v.machine.ending) (sym same) ∙ so.1)))
-        (λ not.
-          let so = ended_so (flat n).ending n (flat n).point.world.time l.steps (steps l.steps w).machine.ending not l.so in
-          let same : steps n w ≡ steps l.steps w = ⊎_elim
-            (λ lt. sym (laws.stays l.steps n w halted (omega (arith, lt))))
-            (λ ge. laws.stays n l.steps w (subst IsSome (sym so.1) so.2) ge)
-            (cases_lt n l.steps) in
-          (not, ap (λ v. v.machine.ending) same ∙ so.1, ap (λ v. shared v.told) same ∙ l.said))
-        (by_ending (flat n).ending)
+      (λ cut.
+      let so = subst (λ e. LandsSo e n (flat n).point.world.time l.steps (steps l.steps w).machine.ending) cut l.so in
+      let same = laws.stays l.steps n w halted so.0 in
+      absurd (not_none (steps n w).machine.ending halted (ap (λ v. v.machine.ending) (sym same) ∙ so.1)))
+      (λ not.
+      let so = ended_so (flat n).ending n (flat n).point.world.time l.steps (steps l.steps w).machine.ending not l.so in
+      let same : steps n w ≡ steps l.steps w = ⊎_elim
+      (λ lt. sym (laws.stays l.steps n w halted (omega (arith, lt))))
+      (λ ge. laws.stays n l.steps w (subst IsSome (sym so.1) so.2) ge)
+      (cases_lt n l.steps) in
+      (not, ap (λ v. v.machine.ending) same ∙ so.1, ap (λ v. shared v.told) same ∙ l.said))
+      (by_ending (flat n).ending)
 
 pub landings_run : Laws → ControlLaws → LandingsRun
 landings_run laws control globals flat w lands = record {
-    in_time = λ m n front c. (lands m).kept n front c;
-    ends = ends_of laws globals flat w lands;
-    no_more = no_more_of laws globals flat w lands;
-    halts_only = halts_only_of laws globals flat w lands;
-    control = control_of laws globals flat w lands control;
-  }
+  in_time = λ m n front c. (lands m).kept n front c;
+  ends = ends_of laws globals flat w lands;
+  no_more = no_more_of laws globals flat w lands;
+  halts_only = halts_only_of laws globals flat w lands;
+  control = control_of laws globals flat w lands control;
+}
