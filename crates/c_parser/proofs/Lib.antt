@@ -17,3 +17,5 @@ pub mod ListSteps
 pub mod Choices
 pub mod Next
 pub mod Heights
+pub mod Fewer
+pub mod ExpressionSteps

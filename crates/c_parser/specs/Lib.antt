@@ -1,5 +1,6 @@
 pub mod Bodies
 pub mod Laws
+pub mod Parts
 pub mod Programs
 pub mod Reads
 pub mod Runs

@@ -12,6 +12,9 @@ use c_words::words::{Punctuator, Reserved};
 use std::alloc::{AllocError, AllocFailed, Global};
 use std::marker::Model;
 
+/// How many levels of nesting may be open.
+pub const LEVELS: u32 = 200;
+
 /// Why a rule is not read.
 #[derive(Clone, Copy, Debug, PartialEq, Eq)]
 pub enum Stop {

@@ -4,6 +4,7 @@
 ghost use Rattle.c_parser.specs.Laws.{HasOneUnit};
 
 mod cursor;
+mod expression;
 mod leaf;
 mod measured;
 mod operator;

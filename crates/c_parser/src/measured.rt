@@ -1,11 +1,12 @@
 //! Expressions with their heights.
-ghost use Rattle.std.specs.Prelude.{◌≡◌, ◌≤◌, suc, min, [], ◌∷◌, ◌++◌, IfOk, OnOk};
+ghost use Rattle.std.specs.Prelude.{◌≡◌, ◌≤◌, ◌&&◌, suc, min, [], ◌∷◌, ◌++◌, IfOk, OnOk};
 ghost use Rattle.c_tree.specs.Syntax.{ExpressionTree};
 ghost use Rattle.c_tree.specs.SyntaxViews.{expression_tree, expression_trees, type_name_tree};
 ghost use Rattle.c_tree.specs.GrammarExpressions.{call_at};
 ghost use Rattle.c_tree.specs.SyntaxHeights.{height};
 ghost use Rattle.c_parser.specs.Tests as tests;
 
+use crate::cursor::LEVELS;
 use c_tree::syntax::{Expression, TypeName};
 use c_words::operators::{AssignOperator, BinaryOperator, StepOperator, UnaryOperator};
 use c_words::place::{At, Bytes, Name};
@@ -17,10 +18,19 @@ use std::marker::Model;
 const TOO_HIGH: u32 = 200;
 
 /// An expression with its height, or with 200 where it is higher.
-#[derive(Drop)]
 pub struct Measured {
     expression: Expression,
     height: u32,
+}
+
+/// By hand, so that letting one go is a call where it happens, and not the cases of all expressions.
+impl Drop for Measured {
+    fn drop(self) {
+        let Measured {
+            expression: _,
+            height: _,
+        } = self;
+    }
 }
 
 impl Model for Measured {
@@ -118,7 +128,11 @@ impl Measured {
     pub fn into_expression(self) -> Expression
         ensures { result ≡ self }
     {
-        self.expression
+        let Measured {
+            expression,
+            height: _,
+        } = self;
+        expression
     }
 
     /// Whether an operator may follow.
@@ -128,12 +142,19 @@ impl Measured {
         self.height < TOO_HIGH
     }
 
+    /// Whether an operator may follow that opens a level, where so many are open.
+    pub fn may_open(&self, depth: u32) -> bool
+        ensures { result ≡ (tests.is_low (expression_tree self.now) && tests.opens depth) }
+    {
+        self.height < TOO_HIGH && depth < LEVELS
+    }
+
     /// `( inner )`
     pub fn parenthesized(alloc: Global, at: At, inner: Measured) -> Result<Measured, AllocError>
         ensures { IfOk result (λ e. expression_tree e ≡ ExpressionTree.Parenthesized at (expression_tree inner)) }
     {
         let height = above(inner.height);
-        let expression = Expression::parenthesized(alloc, at, inner.expression)?;
+        let expression = Expression::parenthesized(alloc, at, inner.into_expression())?;
         Ok(Measured { expression, height })
     }
 
@@ -152,9 +173,9 @@ impl Measured {
         let expression = Expression::binary(
             alloc,
             at,
-            left.expression,
+            left.into_expression(),
             operator,
-            right.expression,
+            right.into_expression(),
         )?;
         Ok(Measured { expression, height })
     }
@@ -170,7 +191,7 @@ impl Measured {
             ≡ ExpressionTree.Member at (expression_tree object) member) }
     {
         let height = above(object.height);
-        let expression = Expression::member(alloc, at, object.expression, member)?;
+        let expression = Expression::member(alloc, at, object.into_expression(), member)?;
         Ok(Measured { expression, height })
     }
 
@@ -185,7 +206,7 @@ impl Measured {
             ≡ ExpressionTree.Arrow at (expression_tree pointer) member) }
     {
         let height = above(pointer.height);
-        let expression = Expression::arrow(alloc, at, pointer.expression, member)?;
+        let expression = Expression::arrow(alloc, at, pointer.into_expression(), member)?;
         Ok(Measured { expression, height })
     }
 
@@ -200,7 +221,7 @@ impl Measured {
             ≡ ExpressionTree.StepAfter at (expression_tree operand) operator) }
     {
         let height = above(operand.height);
-        let expression = Expression::step_after(alloc, at, operand.expression, operator)?;
+        let expression = Expression::step_after(alloc, at, operand.into_expression(), operator)?;
         Ok(Measured { expression, height })
     }
 
@@ -215,7 +236,7 @@ impl Measured {
             ≡ ExpressionTree.StepBefore at operator (expression_tree operand)) }
     {
         let height = above(operand.height);
-        let expression = Expression::step_before(alloc, at, operator, operand.expression)?;
+        let expression = Expression::step_before(alloc, at, operator, operand.into_expression())?;
         Ok(Measured { expression, height })
     }
 
@@ -230,7 +251,7 @@ impl Measured {
             ≡ ExpressionTree.Unary at operator (expression_tree operand)) }
     {
         let height = above(operand.height);
-        let expression = Expression::unary(alloc, at, operator, operand.expression)?;
+        let expression = Expression::unary(alloc, at, operator, operand.into_expression())?;
         Ok(Measured { expression, height })
     }
 
@@ -244,7 +265,7 @@ impl Measured {
             ≡ ExpressionTree.SizeofExpression at (expression_tree operand)) }
     {
         let height = above(operand.height);
-        let expression = Expression::sizeof_expression(alloc, at, operand.expression)?;
+        let expression = Expression::sizeof_expression(alloc, at, operand.into_expression())?;
         Ok(Measured { expression, height })
     }
 
@@ -259,7 +280,7 @@ impl Measured {
             ≡ ExpressionTree.Cast at (type_name_tree type_name) (expression_tree operand)) }
     {
         let height = above(operand.height);
-        let expression = Expression::cast(alloc, at, type_name, operand.expression)?;
+        let expression = Expression::cast(alloc, at, type_name, operand.into_expression())?;
         Ok(Measured { expression, height })
     }
 
@@ -274,7 +295,12 @@ impl Measured {
             ≡ ExpressionTree.Index at (expression_tree array) (expression_tree index)) }
     {
         let height = above(cmp::max(array.height, index.height));
-        let expression = Expression::index(alloc, at, array.expression, index.expression)?;
+        let expression = Expression::index(
+            alloc,
+            at,
+            array.into_expression(),
+            index.into_expression(),
+        )?;
         Ok(Measured { expression, height })
     }
 
@@ -289,7 +315,12 @@ impl Measured {
             ≡ ExpressionTree.Call at (expression_tree called) (expression_trees arguments)) }
     {
         let height = above(cmp::max(called.height, arguments.height));
-        let expression = Expression::call(alloc, at, called.expression, arguments.expressions)?;
+        let expression = Expression::call(
+            alloc,
+            at,
+            called.into_expression(),
+            arguments.into_expressions(),
+        )?;
         Ok(Measured { expression, height })
     }
 
@@ -308,9 +339,9 @@ impl Measured {
         let expression = Expression::conditional(
             alloc,
             at,
-            condition.expression,
-            then.expression,
-            otherwise.expression,
+            condition.into_expression(),
+            then.into_expression(),
+            otherwise.into_expression(),
         )?;
         Ok(Measured { expression, height })
     }
@@ -330,9 +361,9 @@ impl Measured {
         let expression = Expression::assign(
             alloc,
             at,
-            left.expression,
+            left.into_expression(),
             operator,
-            right.expression,
+            right.into_expression(),
         )?;
         Ok(Measured { expression, height })
     }
@@ -348,7 +379,12 @@ impl Measured {
             ≡ ExpressionTree.Comma at (expression_tree left) (expression_tree right)) }
     {
         let height = above(cmp::max(left.height, right.height));
-        let expression = Expression::comma(alloc, at, left.expression, right.expression)?;
+        let expression = Expression::comma(
+            alloc,
+            at,
+            left.into_expression(),
+            right.into_expression(),
+        )?;
         Ok(Measured { expression, height })
     }
 
@@ -361,10 +397,19 @@ impl Measured {
 }
 
 /// The arguments of a call, with the greatest height among them, or with 200 where that is greater.
-#[derive(Drop)]
 pub struct Arguments {
     expressions: Vec<Expression>,
     height: u32,
+}
+
+/// By hand, as for `Measured`.
+impl Drop for Arguments {
+    fn drop(self) {
+        let Arguments {
+            expressions: _,
+            height: _,
+        } = self;
+    }
 }
 
 impl Model for Arguments {
@@ -395,12 +440,23 @@ impl Arguments {
         }
     }
 
+    // The expressions alone.
+    fn into_expressions(self) -> Vec<Expression>
+        ensures { result.items ≡ self }
+    {
+        let Arguments {
+            expressions,
+            height: _,
+        } = self;
+        expressions
+    }
+
     /// Adds an argument behind the others.
     pub fn push(&mut self, argument: Measured) -> Result<(), AllocError>
         ensures { OnOk result (self.new ≡ self.old ++ argument ∷ []) }
     {
         let height = cmp::max(self.height, argument.height);
-        self.expressions.push(argument.expression)?;
+        self.expressions.push(argument.into_expression())?;
         self.height = height;
         Ok(())
     }

@@ -1,10 +1,11 @@
-//! What follows an operand and has no expression in it: members, `++` and `--`.
-ghost use Rattle.std.specs.Prelude.{◌≡◌, ℕ, Some};
+//! What follows an operand: whether anything does, and what has no expression in it, members, `++` and `--`.
+ghost use Rattle.std.specs.Prelude.{◌≡◌, ◌<◌, ℕ, Some, length, IfOk};
 ghost use Rattle.c_words.specs.Tokens as tokens;
 ghost use Rattle.c_words.specs.declared.words.Punctuator.TheVariants as marks;
 ghost use Rattle.c_tree.specs.SyntaxViews.{expression_tree};
 ghost use Rattle.c_parser.specs.Programs.{Sort, Rule};
 ghost use Rattle.c_parser.specs.Tests.{first};
+ghost use Rattle.c_parser.specs.Parts.{begins_behind};
 ghost use Rattle.c_parser.specs.Bodies.{body};
 ghost use Rattle.c_parser.specs.Reads.{Leads};
 
@@ -12,12 +13,31 @@ use crate::cursor::{Cursor, Stop};
 use crate::leaf::identifier;
 use crate::measured::Measured;
 use c_words::operators::StepOperator;
+use c_words::words::Punctuator;
 use std::alloc::Global;
+
+/// Whether something comes next that may follow an operand.
+pub fn sees_suffix(cursor: &Cursor<'_>) -> bool
+    ensures { result ≡ begins_behind (first cursor.now) }
+{
+    matches!(
+        cursor.mark(),
+        Some(
+            Punctuator::OpenBracket
+                | Punctuator::OpenParen
+                | Punctuator::Dot
+                | Punctuator::Arrow
+                | Punctuator::PlusPlus
+                | Punctuator::MinusMinus
+        )
+    )
+}
 
 /// An operand with `.` and a member behind it (C11 6.5.2.3).
 pub fn member(alloc: Global, cursor: &mut Cursor<'_>, operand: Measured) -> Result<Measured, Stop>
     requires { first cursor.now ≡ Some (tokens.Token.Mark marks.Dot) }
-    ensures { (depth : ℕ) → Leads Sort.expression (body (Rule.postfix_rest depth (expression_tree operand))) (λ e. body (Rule.postfix_rest depth (expression_tree e))) expression_tree cursor.old result cursor.new }
+    ensures leads { (depth : ℕ) → Leads Sort.expression (body (Rule.postfix_rest depth (expression_tree operand))) (λ e. body (Rule.postfix_rest depth (expression_tree e))) expression_tree cursor.old result cursor.new }
+    ensures fewer { IfOk result (λ _. length cursor.new < length cursor.old) }
 {
     let at = cursor.take_next(operand.is_low())?;
     let name = identifier(alloc, cursor)?;
@@ -27,7 +47,8 @@ pub fn member(alloc: Global, cursor: &mut Cursor<'_>, operand: Measured) -> Resu
 /// An operand with `->` and a member behind it (C11 6.5.2.3).
 pub fn arrow(alloc: Global, cursor: &mut Cursor<'_>, operand: Measured) -> Result<Measured, Stop>
     requires { first cursor.now ≡ Some (tokens.Token.Mark marks.Arrow) }
-    ensures { (depth : ℕ) → Leads Sort.expression (body (Rule.postfix_rest depth (expression_tree operand))) (λ e. body (Rule.postfix_rest depth (expression_tree e))) expression_tree cursor.old result cursor.new }
+    ensures leads { (depth : ℕ) → Leads Sort.expression (body (Rule.postfix_rest depth (expression_tree operand))) (λ e. body (Rule.postfix_rest depth (expression_tree e))) expression_tree cursor.old result cursor.new }
+    ensures fewer { IfOk result (λ _. length cursor.new < length cursor.old) }
 {
     let at = cursor.take_next(operand.is_low())?;
     let name = identifier(alloc, cursor)?;
@@ -41,7 +62,8 @@ pub fn increment(
     operand: Measured,
 ) -> Result<Measured, Stop>
     requires { first cursor.now ≡ Some (tokens.Token.Mark marks.PlusPlus) }
-    ensures { (depth : ℕ) → Leads Sort.expression (body (Rule.postfix_rest depth (expression_tree operand))) (λ e. body (Rule.postfix_rest depth (expression_tree e))) expression_tree cursor.old result cursor.new }
+    ensures leads { (depth : ℕ) → Leads Sort.expression (body (Rule.postfix_rest depth (expression_tree operand))) (λ e. body (Rule.postfix_rest depth (expression_tree e))) expression_tree cursor.old result cursor.new }
+    ensures fewer { IfOk result (λ _. length cursor.new < length cursor.old) }
 {
     let at = cursor.take_next(operand.is_low())?;
     Ok(Measured::step_after(alloc, at, operand, StepOperator::Increment)?)
@@ -54,7 +76,8 @@ pub fn decrement(
     operand: Measured,
 ) -> Result<Measured, Stop>
     requires { first cursor.now ≡ Some (tokens.Token.Mark marks.MinusMinus) }
-    ensures { (depth : ℕ) → Leads Sort.expression (body (Rule.postfix_rest depth (expression_tree operand))) (λ e. body (Rule.postfix_rest depth (expression_tree e))) expression_tree cursor.old result cursor.new }
+    ensures leads { (depth : ℕ) → Leads Sort.expression (body (Rule.postfix_rest depth (expression_tree operand))) (λ e. body (Rule.postfix_rest depth (expression_tree e))) expression_tree cursor.old result cursor.new }
+    ensures fewer { IfOk result (λ _. length cursor.new < length cursor.old) }
 {
     let at = cursor.take_next(operand.is_low())?;
     Ok(Measured::step_after(alloc, at, operand, StepOperator::Decrement)?)

@@ -1,15 +1,16 @@
 //! Specifiers and the stars of declarators.
 ghost use Rattle.std.specs.Prelude.{◌≡◌, ◌≤◌, ◌+◌, IfOk};
 ghost use Rattle.c_parser.specs.Programs.{Sort, Rule, Program};
-ghost use Rattle.c_tree.specs.Syntax.{TypeDeclaratorTree};
-ghost use Rattle.c_tree.specs.SyntaxViews.{expression_trees, type_declarator_tree};
+ghost use Rattle.c_tree.specs.Syntax.{TypeDeclaratorTree, TypeNameTree};
+ghost use Rattle.c_tree.specs.SyntaxViews.{expression_trees, type_declarator_tree, type_name_tree};
+ghost use Rattle.c_tree.specs.GrammarExpressions.{specifier_at};
 ghost use Rattle.c_parser.specs.Bodies.{body};
 ghost use Rattle.c_parser.specs.Bodies as bodies;
 ghost use Rattle.c_parser.specs.Reads.{Reads};
 
-use crate::cursor::{Cursor, Stop};
+use crate::cursor::{Cursor, LEVELS, Stop};
 use crate::leaf::identifier;
-use c_tree::syntax::{Expression, Specifier, TypeDeclarator};
+use c_tree::syntax::{Expression, Specifier, TypeDeclarator, TypeName};
 use c_words::place::At;
 use c_words::words::{Punctuator, Reserved};
 use std::alloc::Global;
@@ -23,7 +24,7 @@ pub fn stars(cursor: &mut Cursor<'_>, depth: u32) -> Result<u32, Stop>
     if !cursor.sees_star() {
         return Ok(0);
     }
-    cursor.take_mark(Punctuator::Star, depth < 200)?;
+    cursor.take_mark(Punctuator::Star, depth < LEVELS)?;
     let more = stars(cursor, depth + 1)?;
     Ok(more + 1)
 }
@@ -85,6 +86,19 @@ pub fn direct(at: At, stars: u32, sizes: Vec<Expression>) -> TypeDeclarator
     ensures { type_declarator_tree result ≡ TypeDeclaratorTree.Direct at stars (expression_trees sizes.items) }
 {
     TypeDeclarator::Direct { at, stars, sizes }
+}
+
+/// The name of a type, which stands at its specifier.
+#[tactic(auto, using(c_tree::proofs::SyntaxViews::expression_views))]
+pub fn type_name_of(specifier: Specifier, declarator: TypeDeclarator) -> TypeName
+    ensures { type_name_tree result ≡ TypeNameTree.type_name (specifier_at specifier) specifier (type_declarator_tree declarator) }
+{
+    let at = specifier.at();
+    TypeName {
+        at,
+        specifier,
+        declarator,
+    }
 }
 
 /// Whether a type name's declarator has no tokens.

@@ -6,5 +6,5 @@ use Rattle.c_parser.proofs.measured.Arguments.push.Goals as goal
 
 pub invariant_of-self-2 : goal.invariant_of-self-2
 invariant_of-self-2 c =
-    let h = added expression_tree c.self.inside.expressions.items c.argument.inside.expression in
-    rw (c.in_ok-push.ensures.items, h) (first_of (search rules, grind (arith, common_steps)))
+    let h = added expression_tree c.self.inside.expressions.items c.args.argument in
+    rw (c.in_ok-push.ensures.items, c.into_expression.ensures, h) (first_of (search rules, grind (arith, common_steps)))
