@@ -11,6 +11,4 @@ mod form;
 mod notes;
 mod reader;
 pub mod run;
-#[cfg(test)]
-mod tests;
 mod words;

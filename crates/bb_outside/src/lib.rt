@@ -12,8 +12,6 @@ ghost use Rattle.bb_outside.specs.Files.{Told, Made, Stays, Reads, ReadsAtMost, 
 pub mod mem_shelf;
 pub mod mem_sink;
 pub mod mem_source;
-#[cfg(test)]
-mod tests;
 
 /// A source could not say whether a byte is left.
 #[derive(Clone, Copy, Debug, PartialEq, Eq)]

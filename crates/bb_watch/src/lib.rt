@@ -3,5 +3,3 @@
 
 pub mod event;
 pub mod laws;
-#[cfg(test)]
-mod tests;

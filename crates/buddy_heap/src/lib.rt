@@ -6,5 +6,3 @@
 
 pub mod heap;
 pub mod laws;
-#[cfg(test)]
-mod tests;

@@ -10,6 +10,4 @@ pub mod laws;
 pub mod layout;
 pub mod places;
 pub mod sizes;
-#[cfg(test)]
-mod tests;
 pub mod unary;

@@ -5,6 +5,4 @@ pub mod typed;
 pub mod typed_expr;
 pub mod typed_laws;
 pub mod typed_stmt;
-#[cfg(test)]
-mod typed_tests;
 pub mod types;

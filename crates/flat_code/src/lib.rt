@@ -10,5 +10,3 @@ pub mod emit;
 pub mod laws;
 pub mod recognize;
 pub mod same;
-#[cfg(test)]
-mod tests;

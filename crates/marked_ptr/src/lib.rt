@@ -7,6 +7,4 @@
 
 pub mod answer;
 pub mod laws;
-#[cfg(test)]
-mod tests;
 pub mod words;

@@ -3,4 +3,6 @@
 
 pub mod laws;
 #[cfg(test)]
+mod sequences;
+#[cfg(test)]
 mod tests;

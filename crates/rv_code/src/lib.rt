@@ -7,5 +7,3 @@ mod fields;
 pub mod instr;
 pub mod laws;
 mod opcodes;
-#[cfg(test)]
-mod tests;

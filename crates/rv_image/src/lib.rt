@@ -15,5 +15,3 @@ pub use error::ImageError;
 pub use reading::read;
 pub use writing::write;
 
-#[cfg(test)]
-mod tests;

@@ -64,5 +64,3 @@ fn fill(table: &mut [u8], base: u32, e: u8, byte: u8)
     table[first..first + count].fill(byte);
 }
 
-#[cfg(test)]
-mod tests;

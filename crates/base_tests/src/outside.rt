@@ -1,8 +1,8 @@
 //! The outside in memory, with ample memory: each call once, and calls that fail by number.
-use crate::mem_shelf::MemShelf;
-use crate::mem_sink::MemSink;
-use crate::mem_source::MemSource;
-use crate::{Shelf, ShelfFailed, Sink, SinkFailed, Source, SourceFailed};
+use bb_outside::mem_shelf::MemShelf;
+use bb_outside::mem_sink::MemSink;
+use bb_outside::mem_source::MemSource;
+use bb_outside::{Shelf, ShelfFailed, Sink, SinkFailed, Source, SourceFailed};
 use std::test::Fail;
 
 #[test]

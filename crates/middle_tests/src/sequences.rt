@@ -1,5 +1,5 @@
-use crate::emit::{LoadValues, MoveValues, SpanValues, load_steps, move_steps, span_steps};
-use crate::recognize::{FlatSequence, sequence_at};
+use flat_code::emit::{LoadValues, MoveValues, SpanValues, load_steps, move_steps, span_steps};
+use flat_code::recognize::{FlatSequence, sequence_at};
 use std::test::Fail;
 
 // With memory at hand each sequence is written, for slots of 16 and of 32 bytes.

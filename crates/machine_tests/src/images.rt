@@ -1,5 +1,5 @@
-use super::*;
-use crate::error::ImageError::{BadField, BadMagic, BadVersion, Extra, Short};
+use rv_image::*;
+use rv_image::error::ImageError::{BadField, BadMagic, BadVersion, Extra, Short};
 use std::alloc::{AllocError, Global};
 use std::test::Fail;
 

@@ -1,6 +1,6 @@
 ghost use Rattle.std.specs.Prelude.{◌≡◌, IfOk, vec_len};
 
-use super::*;
+use size_table::*;
 use std::alloc::{AllocError, Global};
 use std::test::Fail;
 

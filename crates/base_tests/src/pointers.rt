@@ -1,5 +1,5 @@
-use super::answer::MoveAnswer;
-use super::words::{difference, mark, moved, order, owner_slot, unmark};
+use marked_ptr::answer::MoveAnswer;
+use marked_ptr::words::{difference, mark, moved, order, owner_slot, unmark};
 use bb_words::word::Word;
 use std::cmp::Ordering;
 

@@ -1,4 +1,4 @@
-use crate::heap::{Heap, NotABlock};
+use buddy_heap::heap::{Heap, NotABlock};
 use std::test::Fail;
 
 // What comes of giving back what begins there.

@@ -1,7 +1,7 @@
 //! Words that an assembler made, and words that are no instruction.
-use crate::decode::decode;
-use crate::encode::encode;
-use crate::instr::Instr;
+use rv_code::decode::decode;
+use rv_code::encode::encode;
+use rv_code::instr::Instr;
 use bb_words::word::Word;
 
 // Words with a field that no instruction has.

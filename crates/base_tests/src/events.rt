@@ -1,4 +1,4 @@
-use super::event::{Event, Kinds};
+use bb_watch::event::{Event, Kinds};
 use std::test::Fail;
 
 // A kind alone, and an event of it.

@@ -1,0 +1,10 @@
+//! Tests of instructions, images, labels and the machine, apart from their crates, so that the proofs there are checked once.
+#![tactic(auto)]
+
+pub mod around;
+#[cfg(test)]
+mod code;
+#[cfg(test)]
+mod images;
+#[cfg(test)]
+mod machine;

@@ -1,0 +1,271 @@
+//! Calls of the tool on files, inputs, outputs and notes in memory.
+use baggy_tool::ending::Ended;
+use baggy_tool::run::baggy_run;
+use bb_outside::mem_shelf::MemShelf;
+use bb_outside::mem_sink::MemSink;
+use bb_outside::mem_source::MemSource;
+use std::alloc::{AllocError, Global};
+use std::test::Fail;
+
+fn words_of(alloc: Global, texts: &[&str]) -> Result<Vec<String>, AllocError> {
+    let mut words = Vec::new(alloc);
+    for text in texts {
+        words.push(String::from_str(alloc, text)?)?;
+    }
+    Ok(words)
+}
+
+// The status of a call on a shelf, whose notes have so much room and fail at these puts, if it notes just this. The input is
+// not read, and nothing is written to the output.
+fn status_on(
+    alloc: Global,
+    shelf: &mut MemShelf,
+    words: &[&str],
+    room: u32,
+    failing_puts: &[u32],
+    noted: &str,
+) -> Result<Option<u8>, AllocError> {
+    let words = words_of(alloc, words)?;
+    let mut input = MemSource::new(alloc, b"", &[0])?;
+    let mut output = MemSink::new(alloc, 100, &[])?;
+    let mut notes = MemSink::new(alloc, room, failing_puts)?;
+    let Ended { status, .. } = baggy_run(alloc, &words, shelf, &mut input, &mut output, &mut notes);
+    if notes.bytes() == noted.as_bytes() && output.bytes().is_empty() {
+        Ok(Some(status))
+    } else {
+        Ok(None)
+    }
+}
+
+// The status of a call, where `f.c` has this text, if it notes just this.
+fn status(
+    alloc: Global,
+    words: &[&str],
+    text: &[u8],
+    noted: &str,
+) -> Result<Option<u8>, AllocError> {
+    let mut shelf = MemShelf::new(alloc, &[])?;
+    shelf.add("f.c", text)?;
+    status_on(alloc, &mut shelf, words, 200, &[], noted)
+}
+
+const USAGE: &str =
+    "usage: baggy run|compile|exec|check FILE [--steps N] [--out PATH] [--profile]\n";
+
+// The words of a call where `f.c` returns 42, its status, and its note.
+const WORDS: [(&[&str], u8, &str); 25] = [
+    (&["run", "f.c"], 42, ""),
+    (
+        &["run", "f.c", "--steps", "0"],
+        123,
+        "baggy: out of steps\n",
+    ),
+    (
+        &["run", "f.c", "--steps", "4"],
+        123,
+        "baggy: out of steps\n",
+    ),
+    (&["run", "f.c", "--steps", "5"], 42, ""),
+    (&["--steps", "5", "run", "f.c"], 42, ""),
+    (&["run", "--steps", "5", "f.c"], 42, ""),
+    (&["run", "--steps=5", "f.c"], 42, ""),
+    (&["run", "--steps", "5", "--", "f.c"], 42, ""),
+    (&["compile", "--out=p", "f.c"], 0, ""),
+    (&["run", "f.c", "--steps", "1000000000000"], 42, ""),
+    (&["run", "f.c", "--steps", "1000000000001"], 125, USAGE),
+    (&["run", "f.c", "--steps", "12x"], 125, USAGE),
+    (&["run", "f.c", "--steps", ""], 125, USAGE),
+    (&["run", "f.c", "--steps"], 125, USAGE),
+    (&["run", "f.c", "--steps", "5", "--steps", "5"], 125, USAGE),
+    (&["run", "f.c", "--out", "p"], 125, USAGE),
+    (&["run", "f.c", "g.c"], 125, USAGE),
+    (&["compile", "f.c"], 125, USAGE),
+    (&["compile", "f.c", "--out", "p", "--out", "p"], 125, USAGE),
+    (
+        &["compile", "f.c", "--out", "p", "--steps", "5"],
+        125,
+        USAGE,
+    ),
+    (&["run"], 125, USAGE),
+    (&["walk", "f.c"], 125, USAGE),
+    (&[], 125, USAGE),
+    (&["--help"], 125, USAGE),
+    (&["run", "g.c"], 126, "baggy: no file\n"),
+];
+
+#[test]
+fn words_are_read(rt: HostRuntime) -> Result<(), Fail> {
+    for (words, ended, noted) in &WORDS {
+        let got = status(rt.alloc(), words, b"int main(void){return 42;}", noted)?;
+        assert_eq!(rt; got, Some(*ended), "{}", words.len());
+    }
+    Ok(())
+}
+
+const NOT_BUILT: &str = "baggy: refused NotBuilt\n";
+
+// A text, the status of its run, and the note.
+const TEXTS: [(&str, u8, &str); 18] = [
+    ("int main(void) { return 40 + 2; }", 42, ""),
+    ("int main(void) { return 1 - 300; }", 213, ""),
+    ("int main(void) { return 1 - (2 - 3) - 300; }", 214, ""),
+    ("int main(void){return 2147483647 + 2147483647 + 4;}", 2, ""),
+    ("int main(void){return(1);}", 1, ""),
+    ("\nint\tmain ( void ) { return 2147483647 ; } \n", 255, ""),
+    ("", 124, NOT_BUILT),
+    ("intmain(void){return 1;}", 124, NOT_BUILT),
+    ("int main(void){return1;}", 124, NOT_BUILT),
+    ("int main(void){return 01;}", 124, NOT_BUILT),
+    ("int main(void){return 2147483648;}", 124, NOT_BUILT),
+    ("int main(void){return 1u;}", 124, NOT_BUILT),
+    ("int main(void){return -1;}", 124, NOT_BUILT),
+    ("int main(void){return (1;}", 124, NOT_BUILT),
+    ("int main(void){return 1);}", 124, NOT_BUILT),
+    ("int main(void){return 1;}\r\n", 124, NOT_BUILT),
+    ("int main(void){return 1;} // one", 124, NOT_BUILT),
+    ("int main(void){return 1;} int x;", 124, NOT_BUILT),
+];
+
+#[test]
+fn texts_are_run(rt: HostRuntime) -> Result<(), Fail> {
+    for (text, ended, noted) in &TEXTS {
+        let got = status(rt.alloc(), &["run", "f.c"], text.as_bytes(), noted)?;
+        assert_eq!(rt; got, Some(*ended), "{text}");
+    }
+    Ok(())
+}
+
+// A file whose sum is 1 in brackets, and further ones.
+fn ones(alloc: Global, brackets: u32, further: u32) -> Result<String, AllocError> {
+    let mut text = String::from_str(alloc, "int main(void){return ")?;
+    for _ in 0..brackets {
+        text.push_str("(")?;
+    }
+    text.push_str("1")?;
+    for _ in 0..brackets {
+        text.push_str(")")?;
+    }
+    for _ in 0..further {
+        text.push_str("+1")?;
+    }
+    text.push_str(";}")?;
+    Ok(text)
+}
+
+#[test]
+fn two_hundred(rt: HostRuntime) -> Result<(), Fail> {
+    for (brackets, further, ended, noted) in [
+        (0, 199, 200, ""),
+        (0, 200, 124, NOT_BUILT),
+        (199, 0, 1, ""),
+        (200, 0, 124, NOT_BUILT),
+    ] {
+        let text = ones(rt.alloc(), brackets, further)?;
+        let got = status(rt.alloc(), &["run", "f.c"], text.as_bytes(), noted)?;
+        assert_eq!(rt; got, Some(ended), "{brackets} {further}");
+    }
+    Ok(())
+}
+
+// The calls of the shelf that fail, the room for the notes and their calls that fail, the status and the note, for a source
+// that is too long by one byte.
+const FAULTS: [(&[u32], u32, &[u32], u8, &str); 7] = [
+    (
+        &[],
+        200,
+        &[],
+        124,
+        "baggy: refused TooLong length 1048577\n",
+    ),
+    (&[0], 200, &[], 126, "baggy: file fault\n"),
+    (&[256], 200, &[], 126, "baggy: file fault\n"),
+    (&[], 200, &[0], 126, ""),
+    (&[], 200, &[1], 126, "baggy: refused TooLong length "),
+    (&[], 200, &[2], 126, "baggy: refused TooLong length 1048577"),
+    (&[], 5, &[], 126, "baggy"),
+];
+
+#[test]
+fn faults_are_answered(rt: HostRuntime) -> Result<(), Fail> {
+    let alloc = rt.alloc();
+    let long = vec![in alloc; b' '; 1_048_577]?;
+    for (failing, room, failing_puts, ended, noted) in &FAULTS {
+        let mut shelf = MemShelf::new(alloc, failing)?;
+        shelf.add("f.c", &long)?;
+        let words = ["run", "f.c"];
+        let got = status_on(alloc, &mut shelf, &words, *room, failing_puts, noted)?;
+        assert_eq!(rt; got, Some(*ended), "{noted}");
+    }
+    Ok(())
+}
+
+// The program of three instructions that exits with 42.
+const WORKED: [u8; 40] = [
+    0x42, 0x41, 0x47, 0x59, 1, 0, 0, 0, 0, 0x10, 0, 0, 0, 0, 0, 0, 0, 0, 0, 0, 0, 0, 0, 0, 12, 0,
+    0, 0, 0x13, 0x05, 0xA0, 0x02, 0x93, 0x08, 0x10, 0x00, 0x73, 0x00, 0x00, 0x00,
+];
+
+// So many bytes of the worked image, zeros behind it, with one byte changed.
+fn changed(alloc: Global, len: usize, place: usize, value: u8) -> Result<Vec<u8>, AllocError> {
+    let mut bytes = Vec::from_slice(alloc, &WORKED)?;
+    bytes.push(0)?;
+    bytes.truncate(len);
+    if place < bytes.len() {
+        bytes[place] = value;
+    }
+    Ok(bytes)
+}
+
+// The length, the place of a byte and its value; the status and the note.
+const IMAGES: [(usize, usize, u8, u8, &str); 9] = [
+    (40, 0, 0x42, 42, ""),
+    (30, 0, 0x42, 124, "baggy: refused Short need 40 have 30\n"),
+    (24, 0, 0x42, 124, "baggy: refused Short need 28 have 24\n"),
+    (0, 0, 0, 124, "baggy: refused Short need 4 have 0\n"),
+    (41, 0, 0x42, 124, "baggy: refused Extra at 40\n"),
+    (40, 3, 0, 124, "baggy: refused BadMagic\n"),
+    (40, 4, 2, 124, "baggy: refused BadVersion 2\n"),
+    (40, 8, 1, 124, "baggy: refused BadField at 8\n"),
+    (40, 36, 0, 122, "baggy: trap Illegal\n"),
+];
+
+#[test]
+fn images_are_run(rt: HostRuntime) -> Result<(), Fail> {
+    for (len, place, value, ended, noted) in &IMAGES {
+        let bytes = changed(rt.alloc(), *len, *place, *value)?;
+        let got = status(rt.alloc(), &["exec", "f.c"], &bytes, noted)?;
+        assert_eq!(rt; got, Some(*ended), "{noted}");
+    }
+    Ok(())
+}
+
+// The words of calls one after the other on a shelf of one source, whose write of the first call and a read of the second
+// fail; their statuses and notes.
+const CHAIN: [(&[&str], u8, &str); 6] = [
+    (
+        &["compile", "f.c", "--out", "p"],
+        126,
+        "baggy: file fault\n",
+    ),
+    (
+        &["compile", "f.c", "--out", "p"],
+        126,
+        "baggy: file fault\n",
+    ),
+    (&["exec", "p"], 126, "baggy: no file\n"),
+    (&["compile", "f.c", "--out", "p"], 0, ""),
+    (&["exec", "p"], 213, ""),
+    (&["run", "f.c"], 213, ""),
+];
+
+#[test]
+fn compiles_and_runs(rt: HostRuntime) -> Result<(), Fail> {
+    let alloc = rt.alloc();
+    let mut shelf = MemShelf::new(alloc, &[2, 4])?;
+    shelf.add("f.c", b"int main(void) { return 1 - 300; }")?;
+    for (words, ended, noted) in &CHAIN {
+        let got = status_on(alloc, &mut shelf, words, 200, &[], noted)?;
+        assert_eq!(rt; got, Some(*ended), "{}", words.len());
+    }
+    Ok(())
+}
