@@ -1,6 +1,6 @@
+use bb_words::word::Word;
 use marked_ptr::answer::MoveAnswer;
 use marked_ptr::words::{difference, mark, moved, order, owner_slot, unmark};
-use bb_words::word::Word;
 use std::cmp::Ordering;
 
 // A word, its distance, the exponent of its block, and what it is moved to.

@@ -1,8 +1,8 @@
 //! Words that an assembler made, and words that are no instruction.
+use bb_words::word::Word;
 use rv_code::decode::decode;
 use rv_code::encode::encode;
 use rv_code::instr::Instr;
-use bb_words::word::Word;
 
 // Words with a field that no instruction has.
 const NO_INSTRUCTIONS: [u32; 18] = [

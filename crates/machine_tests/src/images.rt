@@ -1,5 +1,5 @@
-use rv_image::*;
 use rv_image::error::ImageError::{BadField, BadMagic, BadVersion, Extra, Short};
+use rv_image::*;
 use std::alloc::{AllocError, Global};
 use std::test::Fail;
 

@@ -63,4 +63,3 @@ fn fill(table: &mut [u8], base: u32, e: u8, byte: u8)
     let count = (1usize << e) / SLOT;
     table[first..first + count].fill(byte);
 }
-
