@@ -4,16 +4,58 @@ ghost use Rattle.rv_asm.specs.Parts.{AreParts};
 ghost use Rattle.machine_tests.specs.Around.{pass, around, GoesToAnEnd};
 
 use bb_words::list::List;
-use rv_asm::parts::{Labelled, Part};
+use rv_asm::parts::{BranchOp, Labelled, Part};
 use rv_code::instr::Instr;
 use std::alloc::{AllocError, Global};
 
 /// An instruction that does nothing.
-pub const PASS: Part = Part::Plain(Instr::Addi {
+const PASS: Part = Part::Plain(Instr::Addi {
     rd: 0,
     rs1: 0,
     imm: 0,
 });
+
+/// What a part at the edge does.
+#[derive(Clone, Copy)]
+pub enum End {
+    /// Nothing.
+    Pass,
+    /// Goes to label 0 if x1 and x2 are equal.
+    BranchBack,
+    /// Goes to label 1 if x1 and x2 are equal.
+    BranchAhead,
+    /// Goes to label 0.
+    JumpBack,
+    /// Goes to label 1.
+    JumpAhead,
+}
+
+impl End {
+    /// The part that does so.
+    pub fn part(self) -> Part
+        ensures { GoesToAnEnd result }
+    {
+        match self {
+            End::Pass => PASS,
+            End::BranchBack => branch(0),
+            End::BranchAhead => branch(1),
+            End::JumpBack => Part::Jump { rd: 0, to: 0 },
+            End::JumpAhead => Part::Jump { rd: 0, to: 1 },
+        }
+    }
+}
+
+fn branch(to: u32) -> Part
+    requires { to ≤ 1 }
+    ensures { GoesToAnEnd result }
+{
+    Part::Branch {
+        op: BranchOp::Beq,
+        rs1: 1,
+        rs2: 2,
+        to,
+    }
+}
 
 /// Two parts with so many instructions before them, behind label 0, and so many behind them, before label 1.
 #[tactic(auto, using(crate::proofs::Resolvable::are_parts))]

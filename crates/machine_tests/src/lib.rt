@@ -7,4 +7,6 @@ mod code;
 #[cfg(test)]
 mod images;
 #[cfg(test)]
+mod labels;
+#[cfg(test)]
 mod machine;
