@@ -27,14 +27,14 @@ use Rattle.bounds_instr.proofs.Fits.{HasArguments, Fits, AllFit, function_is, fu
 
 -- ---- The items of code
 
-abbrev joined : Items → Items → Items
+abbrev pub joined : Items → Items → Items
 joined end b = b
 joined (next i a) b = next i (joined a b)
 
 abbrev one : FStep → Items
 one s = next (Item.Plain s) end
 
-abbrev library_items : LibCall → (to : ℕ) → (args : List ℕ) → Items
+abbrev pub library_items : LibCall → (to : ℕ) → (args : List ℕ) → Items
 library_items lib.Putchar to args = one (FStep.Env to 3 (first_of args) (first_of args))
 library_items lib.Getchar to args = one (FStep.Env to 2 to to)
 library_items lib.Exit to args = one (FStep.Env to 1 (first_of args) (first_of args))
@@ -46,7 +46,7 @@ library_items lib.Memset to args = end
 
 module _ (n : ℕ) where
   abbrev mutual
-    step_items : Step → Items
+    pub step_items : Step → Items
     step_items (Step.Number to value) = one (FStep.Number to value)
     step_items (Step.NullPtr to) = one (FStep.Number to 0)
     step_items (Step.Same to from) = one (FStep.Same to from)
@@ -64,7 +64,7 @@ module _ (n : ℕ) where
     step_items (Step.LineMark line) = one (FStep.LineMark line)
     step_items x = end
 
-    items : Steps → Items
+    pub items : Steps → Items
     items Steps.stop = end
     items (Steps.step x xs) = joined (step_items x) (items xs)
 
@@ -118,7 +118,7 @@ module _ (g n : ℕ) where
     steps_of_step (Step.PtrOrder to o a b) = refl
     steps_of_step (Step.PtrDiff to a b size) = refl
 
-    steps_of_items : (xs : Steps) → all_steps g (items n xs) ≡ code n xs
+    pub steps_of_items : (xs : Steps) → all_steps g (items n xs) ≡ code n xs
     steps_of_items Steps.stop = refl
     steps_of_items (Steps.step x xs) =
         joined_steps g (step_items n x) (items n xs) ∙ ap (λ z. z +++ all_steps g (items n xs)) (steps_of_step x) ∙ ap (λ z. step_code n x +++ z) (steps_of_items xs)
@@ -167,7 +167,7 @@ module _ (n : ℕ) where
     step_plainly (Step.PtrOrder to o a b) = tt
     step_plainly (Step.PtrDiff to a b size) = tt
 
-    plainly : (xs : Steps) → ArePlainly (items n xs)
+    pub plainly : (xs : Steps) → ArePlainly (items n xs)
     plainly Steps.stop = tt
     plainly (Steps.step x xs) = joined_plainly (step_items n x) (items n xs) (step_plainly x) (plainly xs)
 

@@ -6,5 +6,6 @@ pub mod Steps
 pub mod Frames
 pub mod Calls
 pub mod Accepted
+pub mod Light
 pub mod Emitted
 pub mod Whole

@@ -1,21 +1,26 @@
 -- What the call answers.
-use Rattle.std.specs.Prelude.{◌≡◌, ℕ, ◌≤◌, true, false, Result, Ok, Err}
+use Rattle.std.specs.Prelude.{◌≡◌, ℕ, ◌+◌, ◌≤◌, true, false, Result, Ok, Err}
 use Rattle.mid_code.specs.Code.{Program}
+use Rattle.mid_code.specs.Weight as mid
 use Rattle.flat_code.specs.declared.code.Flat.{Flat}
 use Rattle.flat_code.specs.Code.{FCode}
 use Rattle.flat_code.specs.CodeViews.{code_of}
+use Rattle.flat_code.specs.Weight as flat
 use Rattle.flat_verify.specs.Discipline.{IsDisciplined}
 use Rattle.bounds_instr.specs.declared.error.InstrError.{InstrError}
 use Rattle.bounds_instr.specs.declared.error.InstrError.TheVariants.{NotBuilt, Memory}
 use Rattle.bounds_instr.specs.Built.{is_built}
 use Rattle.bounds_instr.specs.Code.{global_blocks, instrumented}
 use Rattle.bounds_instr.specs.Keeps.{Keeps}
+use Rattle.bounds_instr.specs.Laws.{beside}
 
--- For slots of every size this is the code of the program; it does what the program does, and keeps the discipline.
+-- For slots of every size this is the code of the program; it does what the program does, keeps the discipline,
+-- and weighs no more than the program, the start code and the library.
 pub record Instruments (p : Program) (code : FCode) : Type 0 where
   pub is : (g : ℕ) → 1 ≤ g → g ≤ 24 → code ≡ instrumented g p
   pub keeps : (g : ℕ) → 1 ≤ g → g ≤ 24 → Keeps g (λ site. false) p code
   pub disciplined : (g : ℕ) → 1 ≤ g → g ≤ 24 → IsDisciplined g (global_blocks g p) code
+  pub light : (g : ℕ) → 1 ≤ g → g ≤ 24 → flat.weight g code ≤ mid.weight p + beside
 
 -- Flat code comes just where the program is built, if memory is not wanting.
 abbrev pub IsInstrumented : Program → Result Flat InstrError → Type 0

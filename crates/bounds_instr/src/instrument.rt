@@ -10,7 +10,7 @@ ghost use Rattle.bounds_instr.specs.Instruments.{IsInstrumented};
 use crate::built::is_built;
 use crate::code_steps::code_steps;
 use crate::error::InstrError;
-use crate::laws::{instrumented_is_disciplined, instrumented_keeps};
+use crate::laws::{instrumented_is_disciplined, instrumented_is_light, instrumented_keeps};
 use bb_words::list::List;
 use flat_code::code::{Flat, FlatFunction};
 use mid_code::code::{Mid, MidFunction};
@@ -60,14 +60,15 @@ fn code_functions(
 }
 
 /// The flat code of a program that is well formed: it does what the program does, for slots of every size, every input and
-/// every bound on turns and nested calls, within the program's time, and it keeps the discipline. Or the program has a form
-/// that is not built.
+/// every bound on turns and nested calls, within the program's time, it keeps the discipline, and it weighs no more than the
+/// program does, but for the start code and the library. Or the program has a form that is not built.
 pub fn instrument(alloc: Global, mid: &Mid) -> Result<Flat, InstrError>
     requires { Formed (program_of mid.now) }
     ensures { IsInstrumented (program_of mid.now) result }
 {
     instrumented_keeps();
     instrumented_is_disciplined();
+    instrumented_is_light();
     injection::laws::frames_are_alike();
     if !is_built(mid) {
         return Err(InstrError::NotBuilt);

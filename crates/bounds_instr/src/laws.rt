@@ -1,5 +1,5 @@
 //! Laws of instrumenting.
-ghost use Rattle.bounds_instr.specs.Laws.{InstrumentedKeeps, InstrumentedIsDisciplined};
+ghost use Rattle.bounds_instr.specs.Laws.{InstrumentedKeeps, InstrumentedIsDisciplined, InstrumentedIsLight};
 
 /// The flat code of a program does what the program does, within its time.
 pub fn instrumented_keeps()
@@ -26,4 +26,11 @@ pub fn instrumented_is_disciplined()
 {
     flat_verify::laws::plain_items_are_read();
     flat_verify::laws::derivations_are_accepted();
+}
+
+/// The flat code of a program weighs no more than the program, the start code and the library.
+pub fn instrumented_is_light()
+    ensures { InstrumentedIsLight }
+{
+    flat_verify::laws::plain_items_are_read();
 }

@@ -1,6 +1,6 @@
 -- The code of a program is no longer than its nodes allow.
 use Rattle.std.specs.Prelude.{map, sum, slice_get}
-use Rattle.std.proofs.Common.{◌≡◌, ℕ, suc, ◌+◌, ◌*◌, ◌≤◌, Bool, true, false, List, [], ◌∷◌, length, Option, Some, None, refl, ap, ◌∙◌, arith}
+use Rattle.std.proofs.Common.{◌≡◌, ℕ, suc, ◌+◌, ◌*◌, ◌≤◌, Bool, true, false, List, [], ◌∷◌, length, Option, Some, None, refl, ap, arith}
 use Rattle.std.proofs.lemmas.List.Sums.{sum_by-cons}
 use Rattle.c_words.specs.declared.operators.UnaryOperator.{UnaryOperator}
 use Rattle.c_words.specs.declared.operators.UnaryOperator.TheVariants as unary
@@ -21,7 +21,7 @@ use Rattle.mid_code.specs.Weight.{weight_of, weight_of_all, weight_of_function, 
 use Rattle.std.specs.Prelude.{if◌then◌else◌}
 use Rattle.bb_words.specs.Answers.{either}
 use Rattle.source_meaning.specs.Operators.{binary_of, is_shift}
-use Rattle.lowering.proofs.Fits.{is_unconverted, count_of, Fits, AllFit, FitsIfAny, InitialFits, InitializerFits, DeclarationFits, DeclarationsFit, StartFits, StmtFits, StmtsFit, gives, FunctionFits, ProgramFits}
+use Rattle.lowering.proofs.Fits.{is_unconverted, Fits, AllFit, FitsIfAny, InitialFits, InitializerFits, DeclarationFits, DeclarationsFit, StartFits, StmtFits, StmtsFit, gives, FunctionFits, ProgramFits}
 use Rattle.lowering.specs.Room as room
 use Rattle.lowering.specs.Lower.{only, operation, fitting, casting, flagged, one_operand, stepping, compound, binary_steps, second_at, assign_steps, right_at, local_of, places, calling, code, all_code, code_if_any, leaving, test_code, initial_code, initializer_code, declaration_code, declarations_code, start_code, stmt_code, stmts_code, function_code, lowered}
 
@@ -29,7 +29,7 @@ weight_more : (xs ys : Steps) → weight_of_all (append xs ys) ≡ weight_of_all
 weight_more stop ys = omega arith
 weight_more (more x xs) ys = omega (arith, weight_more xs ys)
 
-light_operation : (o : BinaryOperator) (u : Bool) (line t a b : ℕ) → weight_of (operation o u line t a b) ≤ 64
+light_operation : (o : BinaryOperator) (u : Bool) (line t a b : ℕ) → weight_of (operation o u line t a b) ≤ 72
 light_operation op.Multiply u line t a b = omega arith
 light_operation op.Divide u line t a b = omega arith
 light_operation op.Remainder u line t a b = omega arith
@@ -116,13 +116,9 @@ light_assign : (o : AssignOperator) (line : ℕ) (u w : CType) (x t : ℕ) → w
 light_assign assign.Assign line u w x t = omega arith
 light_assign o line u w x t = light_compound o line u w x t
 
-light_call : (f : Called) (line t : ℕ) (args : List ℕ) → weight_of (calling f line t args) ≤ 144 + 12 * length args
+light_call : (f : Called) (line t : ℕ) (args : List ℕ) → weight_of (calling f line t args) ≤ 204
 light_call (called.Defined f) line t args = omega arith
 light_call (called.Library f) line t args = omega arith
-
-pub places_count : (es : CExprs) (t : ℕ) → length (places es t) ≡ count_of es
-places_count CExprs.none t = refl
-places_count (CExprs.more e es) t = ap (λ n. suc n) (places_count es (t + 1)) ∙ omega arith
 
 module _ (structs : List CStruct) (functions : List CFunction) (k : ℕ) where
   mutual
@@ -153,7 +149,7 @@ module _ (structs : List CStruct) (functions : List CFunction) (k : ℕ) where
     light (CExpr.expr at u (CForm.StepBefore o e)) f t = omega (arith, light_stepping o u (local_of e) t t)
     light (CExpr.expr at u (CForm.StepAfter o e)) f t = omega (arith, light_stepping o u (local_of e) t (t + 1))
     light (CExpr.expr at u (CForm.Call c es)) f t =
-        omega (arith, all_light es f.1.1 t, light_call c at.line t (places es t), places_count es t, weight_more (all_code structs es t) (only (calling c at.line t (places es t))))
+        omega (arith, all_light es f.1.1 t, light_call c at.line t (places es t), weight_more (all_code structs es t) (only (calling c at.line t (places es t))))
     light (CExpr.expr at u (CForm.Global n)) f t = absurd f.1
     light (CExpr.expr at u (CForm.Text n)) f t = absurd f.1
     light (CExpr.expr at u CForm.Null) f t = absurd f.1
@@ -161,7 +157,7 @@ module _ (structs : List CStruct) (functions : List CFunction) (k : ℕ) where
     light (CExpr.expr at u (CForm.Member e m)) f t = absurd f.1
     light (CExpr.expr at u (CForm.Arrow e m)) f t = absurd f.1
 
-    all_light : (es : CExprs) → AllFit structs functions k es → (t : ℕ) → weight_of_all (all_code structs es t) + 12 * count_of es ≤ 504 * sum (walked_all own_nodes es)
+    all_light : (es : CExprs) → AllFit structs functions k es → (t : ℕ) → weight_of_all (all_code structs es t) ≤ 504 * sum (walked_all own_nodes es)
     all_light CExprs.none f t = omega arith
     all_light (CExprs.more e es) f t =
         omega (arith, light e f.0 t, margin_least e, all_light es f.1 (t + 1), sum_by-cons (λ n. n) (nodes_of e) (walked_all own_nodes es), weight_more (code structs e t) (all_code structs es (t + 1)))

@@ -32,8 +32,11 @@ use Rattle.lowering.specs.Room as room
 use Rattle.lowering.specs.Lower.{only, operation, fitting, casting, flagged, one_operand, stepping, compound, binary_steps, second_at, assign_steps, right_at, local_of, local_of_form, places, calling, code, all_code, code_if_any, leaving, test_code, initial_code, initializer_code, declaration_code, declarations_code, start_code, stmt_code, stmts_code}
 use Rattle.lowering.proofs.Fits.{count_of, Takes, FitsCalled, IsVariable, Fits, AllFit, FitsIfAny, InitialFits, InitializerFits, DeclarationFits, DeclarationsFit, StartFits, StmtFits, StmtsFit}
 use Rattle.lowering.proofs.Counted.{temps_with_is}
-use Rattle.lowering.proofs.Light.{places_count}
 use Rattle.lowering.proofs.Reckoning.{AllReckon, Reckons, reckon_append}
+
+places_count : (es : CExprs) (t : ℕ) → length (places es t) ≡ count_of es
+places_count CExprs.none t = refl
+places_count (CExprs.more e es) t = ap (λ n. suc n) (places_count es (t + 1)) ∙ omega arith
 
 was_le : (a b : ℕ) → nat_le a b ≡ true → a ≤ b
 was_le a b h = grind (arith, nat_tests)

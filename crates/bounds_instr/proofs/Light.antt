@@ -1,0 +1,127 @@
+-- Flat code weighs at most what its mid code weighs, and the start code: each step's items are no heavier than the step.
+use Rattle.std.proofs.Common.{◌≡◌, ℕ, zero, suc, ◌+◌, ◌*◌, ◌≤◌, List, [], ◌∷◌, map, Option, Some, None, refl, sym, ap, ◌∙◌, arith}
+use Rattle.c_typed.specs.declared.typed_expr.LibCall.{LibCall}
+use Rattle.c_typed.specs.declared.typed_expr.LibCall.TheVariants as lib
+use Rattle.mid_code.specs.Code.{Step, Steps, Function, Program}
+use Rattle.mid_code.specs.Weight as mid
+use Rattle.flat_code.specs.Code.{FStep, FSteps, none, more}
+use Rattle.flat_code.specs.Recognized.{Sequence, sequence_at, further}
+use Rattle.flat_code.specs.Weight.{sequence_size, item_size, step_size, steps_size, functions_size, weight}
+use Rattle.flat_verify.specs.Items.{Item, Items, item_or, item_of, items_from, items_of}
+use Rattle.flat_verify.specs.Items.Items.{end, next}
+use Rattle.flat_verify.specs.Laws.{PlainItemsAreRead}
+use Rattle.bounds_instr.specs.Code.{code, function_code, instrumented}
+use Rattle.bounds_instr.proofs.Accepted.{joined, library_items, step_items, items, steps_of_items, plainly}
+
+-- ---- What items weigh, in instructions
+
+module _ (g : ℕ) where
+  abbrev mutual
+    size : Item → ℕ
+    size (Item.Plain s) = step_size g s
+    size (Item.Checks q) = sequence_size q
+    size (Item.If cond x y) = 6 + (sizes x + sizes y)
+    size (Item.Block x) = sizes x
+    size (Item.Loop x) = 2 + sizes x
+    size (Item.Inner x) = 2 + sizes x
+
+    sizes : Items → ℕ
+    sizes end = 0
+    sizes (next i rest) = size i + sizes rest
+
+  joined_sizes : (a b : Items) → sizes (joined a b) ≡ sizes a + sizes b
+  joined_sizes end b = omega arith
+  joined_sizes (next i a) b = omega (arith, joined_sizes a b)
+
+  found_size : (o : Option Sequence) (n : ℕ) (i : Item) → n ≡ size i → item_size o n ≡ size (item_or o i)
+  found_size None n i e = e
+  found_size (Some q) n i e = refl
+
+  -- steps weigh what their items weigh
+  mutual
+    size_is : (s : FStep) → step_size g s ≡ size (item_of g s)
+    size_is (FStep.If cond x y) = omega (arith, sizes_are 0 x, sizes_are 0 y)
+    size_is (FStep.Block x) = sizes_are 0 x
+    size_is (FStep.Loop x) = ap (λ n. 2 + n) (sizes_are 0 x)
+    size_is (FStep.Inner x) = ap (λ n. 2 + n) (sizes_are 0 x)
+    size_is (FStep.Number to value) = refl
+    size_is (FStep.Same to from) = refl
+    size_is (FStep.Arith to o a b) = refl
+    size_is (FStep.Exit levels) = refl
+    size_is (FStep.Call to f args) = refl
+    size_is (FStep.Return from) = refl
+    size_is (FStep.Slot to from) = refl
+    size_is (FStep.Look to slot) = refl
+    size_is (FStep.FrameAt to offset) = refl
+    size_is (FStep.Load to at width) = refl
+    size_is (FStep.Store at from width) = refl
+    size_is (FStep.Checked from to) = refl
+    size_is (FStep.LineMark line) = refl
+    size_is (FStep.Report kind line) = refl
+    size_is (FStep.Env to call a b) = refl
+
+    sizes_are : (n : ℕ) (xs : FSteps) → steps_size g n xs ≡ sizes (items_from g n xs)
+    sizes_are n none = refl
+    sizes_are (suc n) (more s rest) = sizes_are n rest
+    sizes_are zero (more s rest) =
+        let found = sequence_at g (more s rest) in
+        omega (arith, found_size found (step_size g s) (item_of g s) (size_is s), sizes_are (further g found) rest)
+
+  -- ---- No step's items are heavier than the step
+
+  library_light : (which : LibCall) (to : ℕ) (args : List ℕ) → 4 * sizes (library_items which to args) ≤ 204
+  library_light lib.Putchar to args = omega arith
+  library_light lib.Getchar to args = omega arith
+  library_light lib.Exit to args = omega arith
+  library_light lib.Malloc to args = omega arith
+  library_light lib.Calloc to args = omega arith
+  library_light lib.Free to args = omega arith
+  library_light lib.Memcpy to args = omega arith
+  library_light lib.Memset to args = omega arith
+
+  module _ (n : ℕ) where
+    mutual
+      step_light : (x : Step) → 4 * sizes (step_items n x) ≤ mid.weight_of x
+      step_light (Step.Number to value) = omega arith
+      step_light (Step.NullPtr to) = omega arith
+      step_light (Step.Same to from) = omega arith
+      step_light (Step.Arith to o a b) = omega arith
+      step_light (Step.Divide to o a b line) = omega arith
+      step_light (Step.PtrSame to a b) = omega arith
+      step_light (Step.Call to f args) = omega arith
+      step_light (Step.Library to which args line a b) = library_light which to args
+      step_light (Step.If cond xs ys) = omega (arith, light xs, light ys)
+      step_light (Step.Block body) = omega (arith, light body)
+      step_light (Step.Loop body) = omega (arith, light body)
+      step_light (Step.Exit levels) = omega arith
+      step_light (Step.Return from) = omega arith
+      step_light (Step.LineMark line) = omega arith
+      step_light (Step.Named to o) = omega arith
+      step_light (Step.Move site to from by scale down line) = omega arith
+      step_light (Step.MoveBy site to from z line) = omega arith
+      step_light (Step.Load to at width line) = omega arith
+      step_light (Step.Store at from width) = omega arith
+      step_light (Step.Clear o) = omega arith
+      step_light (Step.Init o offset from width) = omega arith
+      step_light (Step.CopyBytes a b from to m line) = omega arith
+      step_light (Step.PtrOrder to o a b) = omega arith
+      step_light (Step.PtrDiff to a b size) = omega arith
+
+      light : (xs : Steps) → 4 * sizes (items n xs) ≤ mid.weight_of_all xs
+      light Steps.stop = omega arith
+      light (Steps.step x xs) = omega (arith, joined_sizes (step_items n x) (items n xs), step_light x, light xs)
+
+-- ---- Functions and programs
+
+module _ (read : PlainItemsAreRead) (g : ℕ) where
+  code_light : (n : ℕ) (xs : Steps) → 4 * steps_size g 0 (code n xs) ≤ mid.weight_of_all xs
+  code_light n xs =
+      let same = ap (items_of g) (sym (steps_of_items g n xs)) ∙ read g (items n xs) (plainly n xs) in
+      omega (arith, light g n xs, sizes_are g 0 (code n xs), ap (λ is. sizes g is) same)
+
+  functions_light : (fs : List Function) → 4 * functions_size g (map (function_code g) fs) ≤ mid.weight_of_functions fs
+  functions_light [] = omega arith
+  functions_light (f ∷ fs) = omega (arith, code_light f.values f.body, functions_light fs)
+
+  pub program_light : (p : Program) → weight g (instrumented g p) ≤ mid.weight p + 28672
+  program_light p = omega (arith, functions_light p.functions)
