@@ -80,6 +80,7 @@ module _ (p : CProgram) (fits : ProgramFits p) (few : (i : ℕ) (f : CFunction) 
         ranges = all_in_range q code 0 code.body good;
         signature = length-replicate f.params IsNumber;
         known = All-replicate (λ k. k ≡ Unknown → ⊥) f.params IsNumber known;
+        gives = known;
         last = numbers;
         kinds = subst (λ z. AreKinds (map signature q.functions) IsNumber code.body z numbers []) (sym (first_is f.params)) (all_kinds q code 0 code.body good);
         end = λ h. refl;

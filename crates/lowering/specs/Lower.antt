@@ -1,5 +1,5 @@
--- From the typed tree to mid code: the code of expressions, statements, functions and programs. What is built are programs
--- of numbers: local j of a function is value j of its code.
+-- From the typed tree to mid code: the code of expressions (C11 6.5), statements (6.8), functions and programs. What is built
+-- are programs of numbers: local j of a function is value j of its code.
 use Rattle.std.specs.Prelude.{ℕ, min, ◌+◌, Bool, true, false, List, [], ◌∷◌, length, map, Option, Some, None}
 use Rattle.bb_words.specs.Answers.{either}
 use Rattle.bb_words.specs.declared.steps.ArithOp.{ArithOp}

@@ -160,6 +160,7 @@ pub record IsFunction (p : Program) (signatures : List Signature) (f : Function)
   pub ranges : AreInRange p f 0 f.body
   pub signature : length s.params ≡ f.params
   pub known : All (λ k. ¬ (k ≡ Unknown)) s.params
+  pub gives : ¬ (s.result ≡ Unknown)
   pub last : Kinds
   pub kinds : AreKinds signatures s.result f.body (first_kinds s) last []
   pub end : falls_all f.body ≡ true → s.result ≡ IsNumber

@@ -15,7 +15,8 @@ use Rattle.mid_code.specs.Code.{Function, Program}
 use Rattle.mid_code.specs.Times.{call_charge}
 use Rattle.mid_code.specs.Meaning.{MidEnding, Came, Point, Goings, Way, On, Out, Back, spend, doing, Watch, unwatched, Names, Calls, acts}
 
--- the parameters of a new call hold the arguments, and every other value is the number 0
+-- The parameters of a new call hold the arguments, and every other value is the number 0: a call has as many arguments as
+-- the function has parameters.
 abbrev pub parameters : List Value → ℕ → Value
 parameters vs i = slice_index_or vs i (Num 0)
 
