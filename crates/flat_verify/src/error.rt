@@ -12,7 +12,7 @@ pub enum VerifyError {
     /// functions before.
     #[error("function {function} breaks the discipline at its place {place}")]
     Unchecked { function: u32, place: u32 },
-    /// There is not memory enough to tell.
+    /// There is not memory enough to tell, or a place or a number of the table does not fit a word of the machine.
     #[error("out of memory")]
     Memory,
 }

@@ -10,6 +10,7 @@ use flat_code::code::Flat;
 
 /// Flat code that keeps the discipline, where its global objects lie as the layout says and slots have 2^`exponent` bytes.
 /// Whoever has one knows that, so it is safe in every run.
+#[derive(Clone, Copy)]
 pub struct Verified<'a> {
     pub code: &'a Flat,
     pub layout: &'a Layout,
