@@ -25,3 +25,7 @@ pub mod Firsts
 pub mod Origins
 pub mod Pushed
 pub mod Sized
+pub mod Walked
+pub mod Outlined
+pub mod FirstIn
+pub mod Demanded

@@ -149,12 +149,12 @@ mutual
 
 -- ---- What begins a list
 
-abbrev drop_steps : ℕ → FSteps → FSteps
+abbrev pub drop_steps : ℕ → FSteps → FSteps
 drop_steps zero a = a
 drop_steps (suc n) FSteps.none = FSteps.none
 drop_steps (suc n) (FSteps.more s a) = drop_steps n a
 
-began : (a b : FSteps) → starts a b ≡ true → b ≡ a +++ drop_steps (count a) b
+pub began : (a b : FSteps) → starts a b ≡ true → b ≡ a +++ drop_steps (count a) b
 began FSteps.none b h = refl
 began (FSteps.more s a) FSteps.none h = wrong h
 began (FSteps.more s a) (FSteps.more t b) h =
@@ -178,7 +178,7 @@ module _ (g : ℕ) where
   sequence_is_at a = if_is_at (move_of a) a (if_begins g (load_of a) a (if_begins g (span_of a) a None)) (if_is_at (load_of a) a (if_begins g (span_of a) a None) (if_is_at (span_of a) a None tt))
 
   -- a sequence has a first step
-  long : (q : Sequence) → count (sequence_steps g q) ≡ suc (count (sequence_steps g q) - 1)
+  pub long : (q : Sequence) → count (sequence_steps g q) ≡ suc (count (sequence_steps g q) - 1)
   long (Sequence.Move p d q line s e) = refl
   long (Sequence.Load w at line s e) = refl
   long (Sequence.Span p n q line d s e) = refl

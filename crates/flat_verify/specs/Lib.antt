@@ -16,4 +16,8 @@ pub mod Verdict
 pub mod Told
 pub mod Views
 pub mod SheetViews
+pub mod Scenes
+pub mod Outline
+pub mod Places
+pub mod Answer
 pub mod Safe

@@ -85,6 +85,12 @@ pub record IsSafeRun (g : ℕ) (code : FCode) (globals : List Block) (frames : L
   pub live : w.live ≡ live_of globals (tells w.told)
   pub steps : InRun g code globals frames input m (is_safe_step g globals code.functions)
 
+-- It is safe in every run in which its blocks lie as they should.
+abbrev pub IsSafeAlways : (g : ℕ) → (globals : List Block) → FCode → Type 0
+IsSafeAlways g globals code =
+    (frames : List (List ℕ)) (input : List ℕ) (m : ℕ) → AreGlobals g globals → AreFrames g code.functions frames
+    → IsSafeRun g code globals frames input m (point_of (flat_run g code globals frames input m)).world
+
 -- Disciplined code is safe in every run, whatever it reads and whatever its memory holds: freed and forged pointers too.
 abbrev pub DisciplinedIsSafe : Type 0
 DisciplinedIsSafe =

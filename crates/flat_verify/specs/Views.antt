@@ -14,6 +14,7 @@ use Rattle.flat_verify.specs.declared.facts.Link.{Link as LinkWritten}
 use Rattle.flat_verify.specs.declared.facts.Link.TheVariants as link
 use Rattle.flat_verify.specs.declared.facts.Demand.{Demand as DemandWritten}
 use Rattle.flat_verify.specs.declared.facts.GlobalBlock.{GlobalBlock}
+use Rattle.flat_verify.specs.declared.layout.Layout.{Layout}
 use Rattle.flat_verify.specs.Facts.{Fact, Source, Setting}
 use Rattle.flat_verify.specs.Effects.{Effect}
 use Rattle.flat_verify.specs.Links.{Link, Demand, demand}
@@ -45,6 +46,9 @@ demand_of d = demand d.place d.at d.fits (map fact_of d.facts.items)
 
 abbrev pub block_of : GlobalBlock → Block
 block_of b = block_at b.base b.exponent
+
+abbrev pub blocks_of : Layout → List Block
+blocks_of l = map block_of l.globals
 
 -- the setting of a function, among all functions and global objects
 abbrev pub setting_for : List GlobalBlock → List FlatFunction → FlatFunction → Setting

@@ -66,7 +66,7 @@ pub(crate) fn places_of_all(steps: &[FlatStep]) -> Result<u32, NoMemory>
     Ok(n)
 }
 
-fn push_own(facts: &mut Vec<Fact>, values: &[u32]) -> Result<(), NoMemory>
+pub(crate) fn push_own(facts: &mut Vec<Fact>, values: &[u32]) -> Result<(), NoMemory>
     ensures { OnOk result (map fact_of facts.new.items ≡ map fact_of facts.old.items ++ own_all values.now) }
 {
     for v in values {
@@ -104,7 +104,11 @@ fn is_one_of(v: u32, values: &[u32]) -> bool
 }
 
 // Those of the values that are among the operands.
-fn shared_values(alloc: Global, operands: &[u32], values: &[u32]) -> Result<Vec<u32>, NoMemory>
+pub(crate) fn shared_values(
+    alloc: Global,
+    operands: &[u32],
+    values: &[u32],
+) -> Result<Vec<u32>, NoMemory>
     ensures { IfOk result (λ v. v.items ≡ shared operands.now values.now) }
 {
     let mut both = Vec::new(alloc);

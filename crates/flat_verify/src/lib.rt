@@ -3,12 +3,22 @@
 
 mod clean;
 mod demands;
+mod edges;
 mod effects;
+pub mod error;
 pub mod facts;
 pub mod laws;
+pub mod layout;
+mod outline;
+mod program;
 pub mod reach;
 pub mod rules;
+pub mod scene;
 pub mod sheets;
 mod steps;
 pub mod told;
+mod unchecked;
 pub mod verdict;
+pub mod verified;
+pub mod verify;
+mod wanted;

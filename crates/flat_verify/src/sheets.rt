@@ -67,7 +67,7 @@ pub(crate) fn product(a: usize, b: usize) -> Result<usize, NoMemory>
 }
 
 // The number of the first range with these values.
-fn number_of_range(ranges: &[Range], pointer: u32, count: u32) -> Option<usize>
+pub(crate) fn number_of_range(ranges: &[Range], pointer: u32, count: u32) -> Option<usize>
     ensures number { result ≡ range_number (map range_of ranges.now) pointer count }
     ensures below { IfSome result (λ i. i < length ranges.now) }
 {

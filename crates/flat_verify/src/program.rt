@@ -1,0 +1,132 @@
+//! A program before its facts are known, and its first break.
+ghost use Rattle.std.specs.Prelude.{◌≡◌, ◌≤◌, ◌<◌, ◌+◌, ◌∷◌, Some, suc, ℕ, map, length, slice_get, IfOk};
+ghost use Rattle.flat_code.specs.Code.{FFunction};
+ghost use Rattle.flat_code.specs.CodeViews.{function_of, steps_of};
+ghost use Rattle.flat_verify.specs.Discipline.{function_fits, setting_in};
+ghost use Rattle.flat_verify.specs.Links.{OfEach, body_links};
+ghost use Rattle.flat_verify.specs.Items.{items_of};
+ghost use Rattle.flat_verify.specs.Sheets.{Stands, IsSheet, AreSheets, InPlaces, width};
+ghost use Rattle.flat_verify.specs.SheetViews.{sheet_of};
+ghost use Rattle.flat_verify.specs.Scenes.{setting_of};
+ghost use Rattle.flat_verify.specs.Verdict.{function_demands};
+ghost use Rattle.flat_verify.specs.Views.{block_of, demand_of, link_of, AreSmall};
+
+use crate::demands::places_of_all;
+use crate::facts::{Demand, GlobalBlock, Link};
+use crate::outline::{places_in, ranges_in};
+use crate::scene::Scene;
+use crate::sheets::{NoMemory, Sheet, product, sum};
+use crate::told::nothing_told;
+use crate::{edges, wanted};
+use flat_code::code::FlatFunction;
+use std::alloc::Global;
+
+// The links of a function's body.
+fn body_links(alloc: Global, scene: &Scene) -> Result<Vec<Link>, NoMemory>
+    requires { AreSmall scene.now.globals.now }
+    ensures { IfOk result (λ v. map link_of v.items ≡ body_links scene.now.exponent (setting_of scene.now) (items_of scene.now.exponent (steps_of scene.now.function.now.body))) }
+{
+    let body = scene.function.body.as_slice();
+    let after = places_of_all(body)?;
+    let told = nothing_told(alloc);
+    let mut links = Vec::new(alloc);
+    edges::push_items(alloc, scene, told, &[], body, 0, after, &mut links)?;
+    Ok(links)
+}
+
+// The sheet of function `f`, whose numbers begin at `base`.
+fn sheet_at(
+    alloc: Global,
+    g: u8,
+    globals: &[GlobalBlock],
+    functions: &[FlatFunction],
+    f: usize,
+    base: usize,
+) -> Result<Sheet, NoMemory>
+    requires least { 1 ≤ g }
+    requires most { g ≤ 24 }
+    requires small { AreSmall globals.now }
+    requires function { f < length functions.now }
+    ensures is { IfOk result (λ s. (fn : FFunction) → slice_get (map function_of functions.now) f ≡ Some fn → IsSheet g (map block_of globals.now) (map function_of functions.now) f fn (sheet_of s)) }
+    ensures base { IfOk result (λ s. s.base ≡ base) }
+{
+    let function = &functions[f];
+    let scene = Scene {
+        exponent: g,
+        globals,
+        functions,
+        function,
+    };
+    let links = body_links(alloc, &scene)?;
+    let ranges = ranges_in(alloc, &links)?;
+    Ok(Sheet {
+        values: function.values,
+        params: function.params,
+        places: places_in(&links),
+        base,
+        ranges,
+        links,
+    })
+}
+
+/// The sheets of a program's functions, and how many numbers they have in all.
+#[derive(Drop)]
+pub(crate) struct Sheets {
+    pub(crate) each: Vec<Sheet>,
+    pub(crate) total: usize,
+}
+
+/// The sheets of these functions.
+pub(crate) fn sheets_of(
+    alloc: Global,
+    g: u8,
+    globals: &[GlobalBlock],
+    functions: &[FlatFunction],
+) -> Result<Sheets, NoMemory>
+    requires least { 1 ≤ g }
+    requires most { g ≤ 24 }
+    requires small { AreSmall globals.now }
+    ensures are { IfOk result (λ r. AreSheets g (map block_of globals.now) (map function_of functions.now) 0 (map function_of functions.now) (map sheet_of r.each.items)) }
+    ensures stands { IfOk result (λ r. Stands (suc (length (map sheet_of r.each.items))) (map sheet_of r.each.items) r.total) }
+{
+    let mut each = Vec::new(alloc);
+    let mut total = sum(functions.len(), 1)?;
+    for f in 0..functions.len() {
+        let sheet = sheet_at(alloc, g, globals, functions, f, total)?;
+        let row = product(sheet.places, sheet.width())?;
+        total = sum(total, row)?;
+        each.push(sheet)?;
+    }
+    Ok(Sheets { each, total })
+}
+
+// Whether a function keeps the limits of functions as wholes.
+fn keeps_limits(main: u32, number: u32, f: &FlatFunction) -> bool
+    ensures { result ≡ function_fits main number (function_of f.now) }
+{
+    let few = f.values <= 255 && f.params <= 8;
+    let library = f.line != 0 || (f.frame == 0 && f.values <= 12);
+    let first = number != main || f.params == 0;
+    few && (f.params <= f.values && (library && first))
+}
+
+/// The demands of function number `f`.
+pub(crate) fn demands_of(
+    alloc: Global,
+    scene: &Scene,
+    main: u32,
+    number: u32,
+) -> Result<Vec<Demand>, NoMemory>
+    ensures { IfOk result (λ v. map demand_of v.items ≡ function_demands scene.now.exponent (setting_of scene.now) main number (function_of scene.now.function.now)) }
+{
+    let mut demands = Vec::new(alloc);
+    demands.push(Demand {
+        place: 0,
+        at: 0,
+        fits: keeps_limits(main, number, scene.function),
+        facts: Vec::new(alloc),
+    })?;
+    let body = scene.function.body.as_slice();
+    wanted::push_items(alloc, scene, 0, body, 0, &mut demands)?;
+    Ok(demands)
+}

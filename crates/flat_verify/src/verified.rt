@@ -1,0 +1,32 @@
+//! Code that keeps the discipline.
+ghost use Rattle.std.specs.Prelude.{◌≤◌};
+ghost use Rattle.flat_code.specs.CodeViews.{code_of};
+ghost use Rattle.flat_verify.specs.Discipline.{IsDisciplined};
+ghost use Rattle.flat_verify.specs.Views.{blocks_of};
+
+use crate::laws::disciplined_is_safe;
+use crate::layout::Layout;
+use flat_code::code::Flat;
+
+/// Flat code that keeps the discipline, where its global objects lie as the layout says and slots have 2^`exponent` bytes.
+/// Whoever has one knows that, so it is safe in every run.
+#[derive(Clone, Copy)]
+pub struct Verified<'a> {
+    pub code: &'a Flat,
+    pub layout: &'a Layout,
+    pub exponent: u8,
+    pub ghost least: { 2 ≤ exponent },
+    pub ghost most: { exponent ≤ 24 },
+    pub ghost disciplined: { IsDisciplined exponent (blocks_of layout.now) (code_of code.now) },
+}
+
+impl<'a> Verified<'a> {
+    ghost use Rattle.flat_verify.specs.Safe.{IsSafeAlways};
+
+    /// It is safe in every run, whatever it reads and whatever its memory holds: freed and forged pointers too.
+    pub fn is_safe(&self)
+        ensures { IsSafeAlways self.now.exponent (blocks_of self.now.layout.now) (code_of self.now.code.now) }
+    {
+        disciplined_is_safe();
+    }
+}
