@@ -19,3 +19,5 @@ pub mod Next
 pub mod Heights
 pub mod Fewer
 pub mod ExpressionSteps
+pub mod Lists
+pub mod Further

@@ -127,6 +127,12 @@ abbrev pub is_void : Specifier → Bool
 is_void (s.Void at) = true
 is_void _ = false
 
+-- `void` alone
+abbrev pub is_lone_void : List ParameterTree → Bool
+is_lone_void [] = false
+is_lone_void (p ∷ []) = is_void p.specifier && is_no_declarator p.declarator
+is_lone_void (p ∷ q ∷ ps) = false
+
 -- parameters, where a lone `void` stands for none
 abbrev pub parameters_of : List ParameterTree → Program Sort.parameters
 parameters_of [] = refuse
@@ -158,12 +164,13 @@ else_by at c d x = if x.1 then give (StatementTree.If at c x.0, true) else when 
     (take (Token.Word w.Else) true (λ other. call (Rule.statement (suc d)) (λ y. give (StatementTree.IfElse at c x.0 y.0, y.1))))
     (give (StatementTree.If at c x.0, true))
 
+abbrev pub do_rest : Level → At → Program Sort.statement
+do_rest d at = call (Rule.statement (suc d)) (λ x. take (Token.Word w.While) true (λ again. mark m.OpenParen (λ from.
+    call (Rule.expression (suc d)) (λ c. mark m.CloseParen (λ to. mark m.Semicolon (λ end. give (StatementTree.DoWhile at x.0 c, false)))))))
+
 abbrev pub do_by : Level → At → Option Token → Program Sort.statement
 do_by d at None = refuse
-do_by d at (Some t) = if begins_statement t
-    then ahead t (opens d) (λ from. call (Rule.statement (suc d)) (λ x. take (Token.Word w.While) true (λ again. mark m.OpenParen (λ from.
-    call (Rule.expression (suc d)) (λ c. mark m.CloseParen (λ to. mark m.Semicolon (λ end. give (StatementTree.DoWhile at x.0 c, false))))))))
-    else refuse
+do_by d at (Some t) = if begins_statement t then ahead t (opens d) (λ from. do_rest d at) else refuse
 
 abbrev pub value_statement : Level → Option Token → Program Sort.statement
 value_statement d None = refuse
@@ -188,12 +195,15 @@ statement_by d (Some (Token.Word w.Return)) = take (Token.Word w.Return) true (�
 statement_by d c = value_statement d c
 
 -- ---- units
-abbrev pub head_by : Level → Option Token → Program Sort.head
-head_by d (Some (Token.Word w.Struct)) = take (Token.Word w.Struct) true (λ first. call Rule.identifier (λ x.
-    when is_open_brace
+-- behind the `struct` that stands here, and its tag
+abbrev pub struct_by : Level → At → List ℕ × At → Program Sort.head
+struct_by d first x = when is_open_brace
     (take (Token.Mark m.OpenBrace) (opens d) (λ open_at. call (Rule.member (suc d)) (λ one. call (Rule.repeat goes_on (Rule.member (suc d))) (λ members.
     mark m.CloseBrace (λ to. give (HeadTree.Struct (record { at = x.1; tag = x.0; members = one ∷ members }), first))))))
-    (give (HeadTree.Specifier (s.Struct first x.0), first))))
+    (give (HeadTree.Specifier (s.Struct first x.0), first))
+
+abbrev pub head_by : Level → Option Token → Program Sort.head
+head_by d (Some (Token.Word w.Struct)) = take (Token.Word w.Struct) true (λ first. call Rule.identifier (λ x. struct_by d first x))
 head_by d _ = call Rule.specifier (λ s. give (HeadTree.Specifier s, specifier_at s))
 
 abbrev pub unit_by : Option Token → Program Sort.unit

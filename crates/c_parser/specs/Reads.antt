@@ -31,6 +31,11 @@ Answers s p view old (Err e) new = Fails s p old e new
 pub record Reads (s : Sort) {A : Type 0} (p : Program s) (view : A → Value s) (old : List Placed) (result : Result A Stop) (new : List Placed) : Type 0 where
   pub answer : Answers s p view old result new
 
+-- where the next token stands
+abbrev pub place_of : List Placed → Option At
+place_of [] = None
+place_of (t ∷ ts) = Some t.at
+
 abbrev pub mark_of : Option Token → Option Punctuator
 mark_of (Some (Token.Mark p)) = Some p
 mark_of _ = None

@@ -122,6 +122,19 @@ begins_statement (Token.Word w.Continue) = true
 begins_statement (Token.Word w.Return) = true
 begins_statement t = begins_expression t
 
+abbrev pub may_begin_statement : Option Token → Bool
+may_begin_statement None = false
+may_begin_statement (Some t) = begins_statement t
+
+-- the tokens that a statement with another one in it begins with
+abbrev pub is_compound : Option Token → Bool
+is_compound (Some (Token.Mark m.OpenBrace)) = true
+is_compound (Some (Token.Word w.If)) = true
+is_compound (Some (Token.Word w.While)) = true
+is_compound (Some (Token.Word w.Do)) = true
+is_compound (Some (Token.Word w.For)) = true
+is_compound _ = false
+
 -- what follows the name of a declarator
 abbrev pub begins_suffix : Option Token → Bool
 begins_suffix (Some (Token.Mark m.OpenBracket)) = true

@@ -1,9 +1,10 @@
 //! The tokens that are left, and why reading stops.
-ghost use Rattle.std.specs.Prelude.{◌≡◌, true, length, option_map, IfOk};
+ghost use Rattle.std.specs.Prelude.{◌≡◌, ◌<◌, ◌^◌, true, length, option_map, IfOk};
 ghost use Rattle.c_words.specs.Tokens as tokens;
-ghost use Rattle.c_lexer.specs.Views.{token_of};
-ghost use Rattle.c_parser.specs.Tests.{first, is_star, begins_specifier};
-ghost use Rattle.c_parser.specs.Reads.{Takes, Sees, TakesNext, mark_of, word_of, name_of, text_of, number_of, character_of};
+ghost use Rattle.c_lexer.specs.Text.{placed};
+ghost use Rattle.c_lexer.specs.Views.{token_of, lexemes};
+ghost use Rattle.c_parser.specs.Tests.{first, is_star, begins_specifier, begins_statement, may_begin_statement};
+ghost use Rattle.c_parser.specs.Reads.{Takes, Sees, TakesNext, place_of, mark_of, word_of, name_of, text_of, number_of, character_of};
 
 use bb_words::list::{Bytes, List};
 use c_lexer::{Token, TokenKind};
@@ -77,6 +78,14 @@ impl<'a> Model for Cursor<'a> {
 }
 
 impl<'a> Cursor<'a> {
+    /// All these tokens, of which there are fewer than 2^32.
+    pub fn new(tokens: &'a [Token]) -> Cursor<'a>
+        requires { length tokens.now < 2 ^ 32 }
+        ensures { result ≡ placed (lexemes tokens.now) }
+    {
+        Cursor { tokens, at: 0 }
+    }
+
     /// The punctuator that comes next, if one does.
     pub fn mark(&self) -> Option<Punctuator>
         ensures { result ≡ mark_of (first self.now) }
@@ -240,4 +249,68 @@ impl<'a> Cursor<'a> {
         self.at += 1;
         Ok(at)
     }
+
+    /// Where the next token stands, if one comes.
+    pub fn next_at(&self) -> Option<At>
+        ensures { result ≡ place_of self.now }
+    {
+        if self.at < self.tokens.len() {
+            Some(self.tokens[self.at].at(self.at as u32))
+        } else {
+            None
+        }
+    }
+
+    /// Whether the next token begins a statement.
+    pub fn sees_statement(&self) -> bool
+        ensures { result ≡ may_begin_statement (first self.now) }
+    {
+        if self.at == self.tokens.len() {
+            return false;
+        }
+        match &self.tokens[self.at].kind {
+            TokenKind::Word(word) => word_begins_statement(*word),
+            TokenKind::Mark(mark) => mark_begins_statement(*mark),
+            _ => true,
+        }
+    }
+}
+
+// Whether a statement begins with this word.
+fn word_begins_statement(word: Reserved) -> bool
+    ensures { result ≡ begins_statement (tokens.Token.Word word) }
+{
+    matches!(
+        word,
+        Reserved::If
+            | Reserved::While
+            | Reserved::Do
+            | Reserved::For
+            | Reserved::Break
+            | Reserved::Continue
+            | Reserved::Return
+            | Reserved::Null
+            | Reserved::Eof
+            | Reserved::Sizeof
+    )
+}
+
+// Whether a statement begins with this punctuator.
+fn mark_begins_statement(mark: Punctuator) -> bool
+    ensures { result ≡ begins_statement (tokens.Token.Mark mark) }
+{
+    matches!(
+        mark,
+        Punctuator::Semicolon
+            | Punctuator::OpenBrace
+            | Punctuator::OpenParen
+            | Punctuator::PlusPlus
+            | Punctuator::MinusMinus
+            | Punctuator::Ampersand
+            | Punctuator::Star
+            | Punctuator::Plus
+            | Punctuator::Minus
+            | Punctuator::Tilde
+            | Punctuator::Bang
+    )
 }

@@ -3,13 +3,20 @@
 
 ghost use Rattle.c_parser.specs.Laws.{HasOneUnit};
 
+mod array;
 mod cursor;
+mod declaration;
+mod declarator;
 mod expression;
+mod initializer;
 mod leaf;
 mod measured;
 mod operator;
+mod parameter;
 mod postfix;
+mod simple;
 mod specifier;
+mod trees;
 
 /// Tokens derive one tree of a file, whatever the limits on nesting.
 pub fn one_unit()

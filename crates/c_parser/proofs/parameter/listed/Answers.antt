@@ -1,0 +1,27 @@
+use Rattle.std.proofs.Common.{ap}
+use Rattle.std.proofs.lemmas.Result.{err_from_is_err_and}
+use Rattle.c_parser.specs.Tests.{is_comma}
+use Rattle.c_parser.proofs.CodeSteps.{saw_yes, saw_no}
+use Rattle.c_parser.proofs.Choices.{no_comma}
+use Rattle.c_parser.proofs.Fewer.{comma_shorter}
+use Rattle.c_parser.proofs.Lists.{collected, commas_more, commas_end, commas_failed}
+use Rattle.c_tree.specs.declared.syntax.declarators.Parameter.{Parameter}
+use Rattle.c_parser.proofs.parameter.listed.Goals as goal
+
+pub parameters-init : goal.parameters-init
+parameters-init c = λ res new g. collected c.new-parameters.ensures.items g
+
+pub parameters-smaller : goal.parameters-smaller
+parameters-smaller c = comma_shorter c.in_ok-parameter.ensures c.in_ok-take_mark.ensures
+
+pub parameters-preserved : goal.parameters-preserved
+parameters-preserved c = λ res new g. c.parameters.invariant res new
+    (commas_more c.in_ok-parameter.ensures (ap is_comma (saw_yes c.sees.ensures c.if-not-sees.false)) c.in_ok-take_mark.ensures c.in_ok-push.ensures.items g)
+
+pub returns-in_err-parameter : goal.returns-in_err-parameter
+returns-in_err-parameter c =
+    let p = err_from_is_err_and c.from_residual.result c.from_residual.ensures.1 in
+    rw (p.1, p.2) (c.parameters.invariant _ _ (commas_failed c.in_err-parameter.ensures))
+
+pub returns-then-not-sees : goal.returns-then-not-sees
+returns-then-not-sees c = c.parameters.invariant _ _ (commas_end c.in_ok-parameter.ensures (no_comma _ (saw_no c.sees.ensures c.if-not-sees.true)) c.in_ok-push.ensures.items)

@@ -1,0 +1,17 @@
+use Rattle.std.proofs.Common.{refl, ap}
+use Rattle.std.proofs.lemmas.Result.{err_from_is_err_and}
+use Rattle.c_parser.specs.Tests.{is_close_paren}
+use Rattle.c_parser.proofs.CodeSteps.{called, call_failed, gave, when_yes, when_no, saw_yes, saw_no}
+use Rattle.c_parser.proofs.Choices.{no_close_paren}
+use Rattle.c_parser.proofs.parameter.optional_parameters.Goals as goal
+
+pub returns-then-sees : goal.returns-then-sees
+returns-then-sees c = when_yes is_close_paren _ _ (ap is_close_paren (saw_yes c.sees.ensures c.if-sees.true)) (gave refl)
+
+pub returns-in_err-parameters : goal.returns-in_err-parameters
+returns-in_err-parameters c =
+    let p = err_from_is_err_and c.from_residual.result c.from_residual.ensures.1 in
+    rw (p.1, p.2) (when_no is_close_paren _ _ (no_close_paren _ (saw_no c.sees.ensures c.if-sees.false)) (call_failed c.in_err-parameters.ensures))
+
+pub returns : goal.returns
+returns c = when_no is_close_paren _ _ (no_close_paren _ (saw_no c.sees.ensures c.if-sees.false)) (called c.in_ok-parameters.ensures (gave refl))

@@ -1,0 +1,18 @@
+use Rattle.std.proofs.Common.{refl, ap, Some}
+use Rattle.std.proofs.lemmas.Result.{err_from_is_err_and}
+use Rattle.c_tree.specs.SyntaxViews.{expression_tree}
+use Rattle.c_parser.specs.Tests.{is_close_paren}
+use Rattle.c_parser.proofs.CodeSteps.{called, call_failed, gave, when_yes, when_no, saw_yes, saw_no}
+use Rattle.c_parser.proofs.Choices.{no_close_paren}
+use Rattle.c_parser.proofs.simple.optional_step.Goals as goal
+
+pub returns-then-sees : goal.returns-then-sees
+returns-then-sees c = when_yes is_close_paren _ _ (ap is_close_paren (saw_yes c.sees.ensures c.if-sees.true)) (gave refl)
+
+pub returns-in_err-value : goal.returns-in_err-value
+returns-in_err-value c =
+    let p = err_from_is_err_and c.from_residual.result c.from_residual.ensures.1 in
+    rw (p.1, p.2) (when_no is_close_paren _ _ (no_close_paren _ (saw_no c.sees.ensures c.if-sees.false)) (call_failed c.in_err-value.ensures))
+
+pub returns : goal.returns
+returns c = when_no is_close_paren _ _ (no_close_paren _ (saw_no c.sees.ensures c.if-sees.false)) (called c.in_ok-value.ensures (gave (ap (λ z. Some (expression_tree z)) c.into_expression.ensures)))
