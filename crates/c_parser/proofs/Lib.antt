@@ -21,3 +21,4 @@ pub mod Fewer
 pub mod ExpressionSteps
 pub mod Lists
 pub mod Further
+pub mod Stopping

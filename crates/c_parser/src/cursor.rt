@@ -3,7 +3,7 @@ ghost use Rattle.std.specs.Prelude.{◌≡◌, ◌<◌, ◌^◌, true, length, o
 ghost use Rattle.c_words.specs.Tokens as tokens;
 ghost use Rattle.c_lexer.specs.Text.{placed};
 ghost use Rattle.c_lexer.specs.Views.{token_of, lexemes};
-ghost use Rattle.c_parser.specs.Tests.{first, is_star, begins_specifier, begins_statement, may_begin_statement};
+ghost use Rattle.c_parser.specs.Tests.{first, is_end, is_star, begins_specifier, begins_statement, may_begin_statement};
 ghost use Rattle.c_parser.specs.Reads.{Takes, Sees, TakesNext, place_of, mark_of, word_of, name_of, text_of, number_of, character_of};
 
 use bb_words::list::{Bytes, List};
@@ -248,6 +248,16 @@ impl<'a> Cursor<'a> {
         let at = self.tokens[self.at].at(self.at as u32);
         self.at += 1;
         Ok(at)
+    }
+
+    /// Whether no token is left.
+    pub fn is_at_end(&self) -> bool
+        ensures { result ≡ is_end (first self.now) }
+    {
+        match self.next_at() {
+            None => true,
+            Some(_) => false,
+        }
     }
 
     /// Where the next token stands, if one comes.

@@ -13,10 +13,15 @@ mod leaf;
 mod measured;
 mod operator;
 mod parameter;
+mod parser;
 mod postfix;
 mod simple;
 mod specifier;
+mod statement;
 mod trees;
+mod unit;
+
+pub use parser::{ParseError, parse};
 
 /// Tokens derive one tree of a file, whatever the limits on nesting.
 pub fn one_unit()

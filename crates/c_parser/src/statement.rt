@@ -1,0 +1,205 @@
+//! Statements and blocks. A statement comes with whether it ends in an `if` without `else`, behind which no `else` may
+//! stand.
+ghost use Rattle.std.specs.Prelude.{◌≤◌, ◌<◌, Some};
+ghost use Rattle.c_words.specs.Tokens as tokens;
+ghost use Rattle.c_words.specs.declared.words.Punctuator.TheVariants as marks;
+ghost use Rattle.c_words.specs.declared.words.Reserved.TheVariants as words;
+ghost use Rattle.c_tree.specs.SyntaxViews.{expression_tree, statement_tree, block_tree, block_item_tree, block_item_trees};
+ghost use Rattle.c_parser.specs.Programs.{Sort, Rule};
+ghost use Rattle.c_parser.specs.Bodies.{body};
+ghost use Rattle.c_parser.specs.Bodies as bodies;
+ghost use Rattle.c_parser.specs.Reads.{Reads};
+
+use crate::cursor::{Cursor, LEVELS, Stop};
+use crate::declaration::declaration;
+use crate::expression::expression;
+use crate::simple::{for_start, optional_step, optional_value, simple};
+use crate::trees;
+use c_tree::syntax::{Block, BlockItem, Expression, Statement};
+use c_words::place::At;
+use c_words::words::{Punctuator, Reserved};
+use std::alloc::Global;
+
+/// A statement (C11 6.8).
+#[cycle(statement)]
+pub fn statement(
+    alloc: Global,
+    cursor: &mut Cursor<'_>,
+    depth: u32,
+) -> Result<(Statement, bool), Stop>
+    requires { depth ≤ 200 }
+    ensures { Reads Sort.statement (body (Rule.statement depth)) (λ x. (statement_tree x.0, x.1)) cursor.old result cursor.new }
+{
+    if cursor.sees(Punctuator::OpenBrace) {
+        let block = block(alloc, cursor, depth)?;
+        return Ok((trees::block_statement(block), false));
+    }
+    if cursor.sees_word(Reserved::If) {
+        return if_statement(alloc, cursor, depth);
+    }
+    if cursor.sees_word(Reserved::While) {
+        return while_statement(alloc, cursor, depth);
+    }
+    if cursor.sees_word(Reserved::Do) {
+        return do_statement(alloc, cursor, depth);
+    }
+    if cursor.sees_word(Reserved::For) {
+        return for_statement(alloc, cursor, depth);
+    }
+    simple(alloc, cursor, depth)
+}
+
+// `if` (C11 6.8.4.1)
+#[cycle(statement)]
+fn if_statement(
+    alloc: Global,
+    cursor: &mut Cursor<'_>,
+    depth: u32,
+) -> Result<(Statement, bool), Stop>
+    requires { depth ≤ 200 }
+    ensures { Reads Sort.statement (bodies.statement_by depth (Some (tokens.Token.Word words.If))) (λ x. (statement_tree x.0, x.1)) cursor.old result cursor.new }
+{
+    let at = cursor.take_word(Reserved::If)?;
+    cursor.take_mark(Punctuator::OpenParen, depth < LEVELS)?;
+    let condition = expression(alloc, cursor, depth + 1)?;
+    cursor.take_mark(Punctuator::CloseParen, true)?;
+    let (then, is_open) = statement(alloc, cursor, depth + 1)?;
+    let condition = condition.into_expression();
+    otherwise(alloc, cursor, depth, at, condition, then, is_open)
+}
+
+// What follows the statement behind an `if`: `else`, or nothing.
+#[cycle(statement)]
+fn otherwise(
+    alloc: Global,
+    cursor: &mut Cursor<'_>,
+    depth: u32,
+    at: At,
+    condition: Expression,
+    then: Statement,
+    is_open: bool,
+) -> Result<(Statement, bool), Stop>
+    requires { depth < 200 }
+    ensures { Reads Sort.statement (bodies.else_by at (expression_tree condition) depth (statement_tree then, is_open)) (λ x. (statement_tree x.0, x.1)) cursor.old result cursor.new }
+{
+    if is_open {
+        let statement = trees::only_if(alloc, at, condition, then)?;
+        return Ok((statement, true));
+    }
+    if !cursor.sees_word(Reserved::Else) {
+        let statement = trees::only_if(alloc, at, condition, then)?;
+        return Ok((statement, true));
+    }
+    cursor.take_word(Reserved::Else)?;
+    let (other, is_open) = statement(alloc, cursor, depth + 1)?;
+    let statement = trees::if_else(alloc, at, condition, then, other)?;
+    Ok((statement, is_open))
+}
+
+// `while` (C11 6.8.5.1)
+#[cycle(statement)]
+fn while_statement(
+    alloc: Global,
+    cursor: &mut Cursor<'_>,
+    depth: u32,
+) -> Result<(Statement, bool), Stop>
+    requires { depth ≤ 200 }
+    ensures { Reads Sort.statement (bodies.statement_by depth (Some (tokens.Token.Word words.While))) (λ x. (statement_tree x.0, x.1)) cursor.old result cursor.new }
+{
+    let at = cursor.take_word(Reserved::While)?;
+    cursor.take_mark(Punctuator::OpenParen, depth < LEVELS)?;
+    let condition = expression(alloc, cursor, depth + 1)?;
+    cursor.take_mark(Punctuator::CloseParen, true)?;
+    let (body, is_open) = statement(alloc, cursor, depth + 1)?;
+    let statement = trees::while_loop(alloc, at, condition.into_expression(), body)?;
+    Ok((statement, is_open))
+}
+
+// `do` (C11 6.8.5.2)
+#[cycle(statement)]
+fn do_statement(
+    alloc: Global,
+    cursor: &mut Cursor<'_>,
+    depth: u32,
+) -> Result<(Statement, bool), Stop>
+    requires { depth ≤ 200 }
+    ensures { Reads Sort.statement (bodies.statement_by depth (Some (tokens.Token.Word words.Do))) (λ x. (statement_tree x.0, x.1)) cursor.old result cursor.new }
+{
+    let at = cursor.take_word(Reserved::Do)?;
+    if !cursor.sees_statement() {
+        return Err(Stop::Syntax);
+    }
+    if depth >= LEVELS {
+        return Err(Stop::TooDeep);
+    }
+    let (body, _) = statement(alloc, cursor, depth + 1)?;
+    cursor.take_word(Reserved::While)?;
+    cursor.take_mark(Punctuator::OpenParen, true)?;
+    let condition = expression(alloc, cursor, depth + 1)?;
+    cursor.take_mark(Punctuator::CloseParen, true)?;
+    cursor.take_mark(Punctuator::Semicolon, true)?;
+    let statement = trees::do_while(alloc, at, body, condition.into_expression())?;
+    Ok((statement, false))
+}
+
+// `for` (C11 6.8.5.3)
+#[cycle(statement)]
+fn for_statement(
+    alloc: Global,
+    cursor: &mut Cursor<'_>,
+    depth: u32,
+) -> Result<(Statement, bool), Stop>
+    requires { depth ≤ 200 }
+    ensures { Reads Sort.statement (bodies.statement_by depth (Some (tokens.Token.Word words.For))) (λ x. (statement_tree x.0, x.1)) cursor.old result cursor.new }
+{
+    let at = cursor.take_word(Reserved::For)?;
+    cursor.take_mark(Punctuator::OpenParen, depth < LEVELS)?;
+    let start = for_start(alloc, cursor, depth + 1)?;
+    let condition = optional_value(alloc, cursor, depth + 1)?;
+    cursor.take_mark(Punctuator::Semicolon, true)?;
+    let step = optional_step(alloc, cursor, depth + 1)?;
+    cursor.take_mark(Punctuator::CloseParen, true)?;
+    let (body, is_open) = statement(alloc, cursor, depth + 1)?;
+    let statement = trees::for_loop(alloc, at, start, condition, step, body)?;
+    Ok((statement, is_open))
+}
+
+/// A block (C11 6.8.2).
+#[cycle(statement)]
+pub fn block(alloc: Global, cursor: &mut Cursor<'_>, depth: u32) -> Result<Block, Stop>
+    requires { depth ≤ 200 }
+    ensures { Reads Sort.block (body (Rule.block depth)) block_tree cursor.old result cursor.new }
+{
+    let at = cursor.take_mark(Punctuator::OpenBrace, depth < LEVELS)?;
+    let items = items(alloc, cursor, depth + 1)?;
+    cursor.take_mark(Punctuator::CloseBrace, true)?;
+    Ok(trees::block(at, items))
+}
+
+// What stands in a block.
+#[cycle(statement)]
+fn items(alloc: Global, cursor: &mut Cursor<'_>, depth: u32) -> Result<Vec<BlockItem>, Stop>
+    requires { depth ≤ 200 }
+    ensures { Reads Sort.block_items (body (Rule.items depth)) (λ v. block_item_trees v.items) cursor.old result cursor.new }
+{
+    let mut items = Vec::new(alloc);
+    'items: while !cursor.sees(Punctuator::CloseBrace) {
+        let item = item(alloc, cursor, depth)?;
+        items.push(item)?;
+    }
+    Ok(items)
+}
+
+// A declaration or a statement in a block.
+#[cycle(statement)]
+fn item(alloc: Global, cursor: &mut Cursor<'_>, depth: u32) -> Result<BlockItem, Stop>
+    requires { depth ≤ 200 }
+    ensures { Reads Sort.block_item (body (Rule.item depth)) block_item_tree cursor.old result cursor.new }
+{
+    if cursor.sees_type() {
+        let declaration = declaration(alloc, cursor, depth)?;
+        return Ok(trees::declaration_item(declaration));
+    }
+    let (statement, _) = statement(alloc, cursor, depth)?;
+    Ok(trees::statement_item(statement))
+}
