@@ -75,37 +75,43 @@ ways_made s g h inside none place first size second after e1 e2 cond exits a a1 
     more l0 l1 l4 w1 (w2 ++ (front ++ rear)) q1 (more l1 l2 l4 w2 (front ++ rear) q2 (more l2 l3 l4 front rear q3 q4)) ∙ ap (λ i. l0 ++ links g s h (item_of g i) place after exits) (sym is)
 
 -- what leads into a construct, and its links
-entered : (s : Setting) (g : ℕ) (none : Here) (place first after e : ℕ) (exits around : List ℕ) (a a1 a2 : List FlatStep) (l0 l1 l2 : List Link)
-    → first ≡ place + 1 → a1 ≡ a → e ≡ first_place (items_of g (steps_of a1)) first after → l1 ≡ l0 ++ goes Effect.Keeps place (Some e)
-    → none ≡ untold → a2 ≡ a → around ≡ exits → l2 ≡ l1 ++ links_all g s none (items_of g (steps_of a2)) first after around
+pub entered : (s : Setting) (g : ℕ) (none : Here) (place first after e : ℕ) (exits : List ℕ) (a : List FlatStep) (l0 l1 l2 : List Link)
+    → first ≡ place + 1 → e ≡ first_place (items_of g (steps_of a)) first after → l1 ≡ l0 ++ goes Effect.Keeps place (Some e)
+    → none ≡ untold → l2 ≡ l1 ++ links_all g s none (items_of g (steps_of a)) first after exits
     → l2 ≡ l0 ++ (Link.Goes Effect.Keeps place (first_place (items_of g (steps_of a)) (place + 1) after) ∷ links_all g s untold (items_of g (steps_of a)) (place + 1) after exits)
-entered s g none place first after e exits around a a1 a2 l0 l1 l2 ef a1s f1 h1 non a2s ar h2 =
+entered s g none place first after e exits a l0 l1 l2 ef f1 h1 non h2 =
     let y = items_of g (steps_of a) in
-    let t1 : e ≡ first_place y (place + 1) after = f1 ∙ ap (λ l. first_place (items_of g (steps_of l)) first after) a1s ∙ ap (λ n. first_place y n after) ef in
+    let t1 : e ≡ first_place y (place + 1) after = f1 ∙ ap (λ n. first_place y n after) ef in
     let w1 = Link.Goes Effect.Keeps place (first_place y (place + 1) after) ∷ [] in
     let q1 : l1 ≡ l0 ++ w1 = h1 ∙ ap (λ n. l0 ++ Link.Goes Effect.Keeps place n ∷ []) t1 in
-    let q2 : l2 ≡ l1 ++ links_all g s untold y (place + 1) after exits =
-    h2 ∙ ap (λ u. l1 ++ links_all g s u (items_of g (steps_of a2)) first after around) non ∙ ap (λ l. l1 ++ links_all g s untold (items_of g (steps_of l)) first after around) a2s
-    ∙ ap (λ n. l1 ++ links_all g s untold y n after around) ef ∙ ap (λ xs. l1 ++ links_all g s untold y (place + 1) after xs) ar in
+    let q2 : l2 ≡ l1 ++ links_all g s untold y (place + 1) after exits = h2 ∙ ap (λ u. l1 ++ links_all g s u y first after exits) non ∙ ap (λ n. l1 ++ links_all g s untold y n after exits) ef in
     more l0 l1 l2 w1 (links_all g s untold y (place + 1) after exits) q1 q2
 
-pub block_made : (s : Setting) (g : ℕ) (h none : Here) (place first after e : ℕ) (exits around : List ℕ) (a a1 a2 : List FlatStep) (x : FStep) (l0 l1 l2 : List Link)
-    → x ≡ FStep.Block (steps_of a) → first ≡ place + 1 → a1 ≡ a → e ≡ first_place (items_of g (steps_of a1)) first after → l1 ≡ l0 ++ goes Effect.Keeps place (Some e)
-    → none ≡ untold → a2 ≡ a → around ≡ after ∷ exits → l2 ≡ l1 ++ links_all g s none (items_of g (steps_of a2)) first after around → l2 ≡ l0 ++ links g s h (item_of g x) place after exits
-block_made s g h none place first after e exits around a a1 a2 x l0 l1 l2 is ef a1s f1 h1 non a2s ar h2 =
-    entered s g none place first after e (after ∷ exits) around a a1 a2 l0 l1 l2 ef a1s f1 h1 non a2s ar h2 ∙ ap (λ i. l0 ++ links g s h (item_of g i) place after exits) (sym is)
+-- the links of a construct of the one kind and of the others, by those of its body
+pub block_made : (s : Setting) (g : ℕ) (h : Here) (place after : ℕ) (exits around : List ℕ) (a a1 : List FlatStep) (x : FStep) (l0 l2 : List Link) → x ≡ FStep.Block (steps_of a) → a1 ≡ a → around ≡ after ∷ exits
+    → l2 ≡ l0 ++ (Link.Goes Effect.Keeps place (first_place (items_of g (steps_of a1)) (place + 1) after) ∷ links_all g s untold (items_of g (steps_of a1)) (place + 1) after around)
+    → l2 ≡ l0 ++ links g s h (item_of g x) place after exits
+block_made s g h place after exits around a a1 x l0 l2 is same ar made =
+    made ∙ ap (λ l. l0 ++ (Link.Goes Effect.Keeps place (first_place (items_of g (steps_of l)) (place + 1) after) ∷ links_all g s untold (items_of g (steps_of l)) (place + 1) after around)) same
+    ∙ ap (λ e. l0 ++ (Link.Goes Effect.Keeps place (first_place (items_of g (steps_of a)) (place + 1) after) ∷ links_all g s untold (items_of g (steps_of a)) (place + 1) after e)) ar
+    ∙ ap (λ i. l0 ++ links g s h (item_of g i) place after exits) (sym is)
 
-pub loop_made : (s : Setting) (g : ℕ) (h none : Here) (place first after e : ℕ) (exits around : List ℕ) (a a1 a2 : List FlatStep) (x : FStep) (l0 l1 l2 : List Link)
-    → x ≡ FStep.Loop (steps_of a) → first ≡ place + 1 → a1 ≡ a → e ≡ first_place (items_of g (steps_of a1)) first place → l1 ≡ l0 ++ goes Effect.Keeps place (Some e)
-    → none ≡ untold → a2 ≡ a → around ≡ after ∷ exits → l2 ≡ l1 ++ links_all g s none (items_of g (steps_of a2)) first place around → l2 ≡ l0 ++ links g s h (item_of g x) place after exits
-loop_made s g h none place first after e exits around a a1 a2 x l0 l1 l2 is ef a1s f1 h1 non a2s ar h2 =
-    entered s g none place first place e (after ∷ exits) around a a1 a2 l0 l1 l2 ef a1s f1 h1 non a2s ar h2 ∙ ap (λ i. l0 ++ links g s h (item_of g i) place after exits) (sym is)
+turning : (s : Setting) (g place after : ℕ) (exits around : List ℕ) (a a1 : List FlatStep) (l0 l2 : List Link) → a1 ≡ a → around ≡ after ∷ exits
+    → l2 ≡ l0 ++ (Link.Goes Effect.Keeps place (first_place (items_of g (steps_of a1)) (place + 1) place) ∷ links_all g s untold (items_of g (steps_of a1)) (place + 1) place around)
+    → l2 ≡ l0 ++ (Link.Goes Effect.Keeps place (first_place (items_of g (steps_of a)) (place + 1) place) ∷ links_all g s untold (items_of g (steps_of a)) (place + 1) place (after ∷ exits))
+turning s g place after exits around a a1 l0 l2 same ar made =
+    made ∙ ap (λ l. l0 ++ (Link.Goes Effect.Keeps place (first_place (items_of g (steps_of l)) (place + 1) place) ∷ links_all g s untold (items_of g (steps_of l)) (place + 1) place around)) same
+    ∙ ap (λ e. l0 ++ (Link.Goes Effect.Keeps place (first_place (items_of g (steps_of a)) (place + 1) place) ∷ links_all g s untold (items_of g (steps_of a)) (place + 1) place e)) ar
 
-pub inner_made : (s : Setting) (g : ℕ) (h none : Here) (place first after e : ℕ) (exits around : List ℕ) (a a1 a2 : List FlatStep) (x : FStep) (l0 l1 l2 : List Link)
-    → x ≡ FStep.Inner (steps_of a) → first ≡ place + 1 → a1 ≡ a → e ≡ first_place (items_of g (steps_of a1)) first place → l1 ≡ l0 ++ goes Effect.Keeps place (Some e)
-    → none ≡ untold → a2 ≡ a → around ≡ after ∷ exits → l2 ≡ l1 ++ links_all g s none (items_of g (steps_of a2)) first place around → l2 ≡ l0 ++ links g s h (item_of g x) place after exits
-inner_made s g h none place first after e exits around a a1 a2 x l0 l1 l2 is ef a1s f1 h1 non a2s ar h2 =
-    entered s g none place first place e (after ∷ exits) around a a1 a2 l0 l1 l2 ef a1s f1 h1 non a2s ar h2 ∙ ap (λ i. l0 ++ links g s h (item_of g i) place after exits) (sym is)
+pub loop_made : (s : Setting) (g : ℕ) (h : Here) (place after : ℕ) (exits around : List ℕ) (a a1 : List FlatStep) (x : FStep) (l0 l2 : List Link) → x ≡ FStep.Loop (steps_of a) → a1 ≡ a → around ≡ after ∷ exits
+    → l2 ≡ l0 ++ (Link.Goes Effect.Keeps place (first_place (items_of g (steps_of a1)) (place + 1) place) ∷ links_all g s untold (items_of g (steps_of a1)) (place + 1) place around)
+    → l2 ≡ l0 ++ links g s h (item_of g x) place after exits
+loop_made s g h place after exits around a a1 x l0 l2 is same ar made = turning s g place after exits around a a1 l0 l2 same ar made ∙ ap (λ i. l0 ++ links g s h (item_of g i) place after exits) (sym is)
+
+pub inner_made : (s : Setting) (g : ℕ) (h : Here) (place after : ℕ) (exits around : List ℕ) (a a1 : List FlatStep) (x : FStep) (l0 l2 : List Link) → x ≡ FStep.Inner (steps_of a) → a1 ≡ a → around ≡ after ∷ exits
+    → l2 ≡ l0 ++ (Link.Goes Effect.Keeps place (first_place (items_of g (steps_of a1)) (place + 1) place) ∷ links_all g s untold (items_of g (steps_of a1)) (place + 1) place around)
+    → l2 ≡ l0 ++ links g s h (item_of g x) place after exits
+inner_made s g h place after exits around a a1 x l0 l2 is same ar made = turning s g place after exits around a a1 l0 l2 same ar made ∙ ap (λ i. l0 ++ links g s h (item_of g i) place after exits) (sym is)
 
 -- the links of a whole body
 pub body_made : (s : Setting) (g : ℕ) (h : Here) (after : ℕ) (exits : List ℕ) (b body : List FlatStep) (l0 new : List Link) → b ≡ body → after ≡ steps_places (steps_of b) → h ≡ untold → exits ≡ [] → l0 ≡ []

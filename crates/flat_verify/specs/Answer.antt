@@ -12,3 +12,9 @@ abbrev pub Answers : {A : Type 0} → (g : ℕ) → (globals : List Block) → F
 Answers g globals code (Ok v) = FirstBreak g globals code None
 Answers g globals code (Err (errors.Unchecked f p)) = FirstBreak g globals code (Some record { function = f; place = p })
 Answers g globals code (Err errors.Memory) = Unit {0}
+
+-- it is not refused
+abbrev pub IsNoRefusal : {A : Type 0} → Result A VerifyError → Type 0
+IsNoRefusal (Ok v) = Unit {0}
+IsNoRefusal (Err (errors.Unchecked f p)) = ⊥
+IsNoRefusal (Err errors.Memory) = Unit {0}

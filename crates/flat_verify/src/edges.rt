@@ -3,12 +3,14 @@ ghost use Rattle.std.specs.Prelude.{◌≡◌, ◌<◌, ◌+◌, ◌∷◌, [], 
 ghost use Rattle.flat_code.specs.CodeViews.{step_of, steps_of};
 ghost use Rattle.flat_verify.specs.Items.{item_of, items_of, items_from, first_place};
 ghost use Rattle.flat_verify.specs.Items.Item.{Plain};
-ghost use Rattle.flat_verify.specs.Facts.{here_after};
+ghost use Rattle.flat_verify.specs.Facts.{untold, here_after};
 ghost use Rattle.flat_verify.specs.Effects.{effect};
+ghost use Rattle.flat_verify.specs.Effects.Effect.{Keeps};
 ghost use Rattle.flat_verify.specs.Chains.{leading, leads};
 ghost use Rattle.flat_verify.specs.Chains as chain;
 ghost use Rattle.flat_verify.specs.Links.{goes, hands_out, links_all};
 ghost use Rattle.flat_verify.specs.Links as link;
+ghost use Rattle.flat_verify.specs.Links.Link.{Goes};
 ghost use Rattle.flat_verify.specs.Scenes.{setting_of};
 ghost use Rattle.flat_verify.specs.Told.{here_of};
 ghost use Rattle.flat_verify.specs.Views.{effect_of, link_of, AreSmall};
@@ -240,42 +242,18 @@ fn push_item(
             Ok(())
         }
         FlatStep::Block { body } => {
-            let first = places_sum(place, 1)?;
             let around = within(alloc, after, exits)?;
-            push_goes(
-                Effect::Keeps,
-                place,
-                Some(entry_of(body, first, after)),
-                links,
-            )?;
-            let untold = nothing_told(alloc);
-            push_items(alloc, scene, untold, &around, body, first, after, links)?;
+            push_body(alloc, scene, &around, body, place, after, links)?;
             Ok(())
         }
         FlatStep::Loop { body } => {
-            let first = places_sum(place, 1)?;
             let around = within(alloc, after, exits)?;
-            push_goes(
-                Effect::Keeps,
-                place,
-                Some(entry_of(body, first, place)),
-                links,
-            )?;
-            let untold = nothing_told(alloc);
-            push_items(alloc, scene, untold, &around, body, first, place, links)?;
+            push_body(alloc, scene, &around, body, place, place, links)?;
             Ok(())
         }
         FlatStep::Inner { body } => {
-            let first = places_sum(place, 1)?;
             let around = within(alloc, after, exits)?;
-            push_goes(
-                Effect::Keeps,
-                place,
-                Some(entry_of(body, first, place)),
-                links,
-            )?;
-            let untold = nothing_told(alloc);
-            push_items(alloc, scene, untold, &around, body, first, place, links)?;
+            push_body(alloc, scene, &around, body, place, place, links)?;
             Ok(())
         }
         _ => {
@@ -283,6 +261,29 @@ fn push_item(
             Ok(())
         }
     }
+}
+
+// What leads from the construct at a place to its steps, and their links.
+#[cycle(items)]
+#[tactic(auto, using(crate::proofs::Sized::item_places))]
+fn push_body(
+    alloc: Global,
+    scene: &Scene,
+    exits: &[u32],
+    body: &[FlatStep],
+    place: u32,
+    after: u32,
+    links: &mut Vec<Link>,
+) -> Result<(), NoMemory>
+    requires { AreSmall scene.now.globals.now }
+    ensures { OnOk result (map link_of links.new.items ≡ map link_of links.old.items ++ (Goes Keeps place (first_place (items_of scene.now.exponent (steps_of body.now)) (place + 1) after) ∷ links_all scene.now.exponent (setting_of scene.now) untold (items_of scene.now.exponent (steps_of body.now)) (place + 1) after exits.now)) }
+{
+    let first = places_sum(place, 1)?;
+    let to = entry_of(body, first, after);
+    push_goes(Effect::Keeps, place, Some(to), links)?;
+    let told = nothing_told(alloc);
+    push_items(alloc, scene, told, exits, body, first, after, links)?;
+    Ok(())
 }
 
 /// The links of steps that stand from a place on, before place `after`, in constructs with these exits.

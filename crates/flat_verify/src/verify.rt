@@ -1,7 +1,8 @@
 //! Telling code that keeps the discipline from code that does not.
 ghost use Rattle.std.specs.Prelude.{◌≡◌, ◌≤◌, IfOk};
 ghost use Rattle.flat_code.specs.CodeViews.{code_of};
-ghost use Rattle.flat_verify.specs.Answer.{Answers};
+ghost use Rattle.flat_verify.specs.Answer.{Answers, IsNoRefusal};
+ghost use Rattle.flat_verify.specs.Discipline.{IsDisciplined};
 ghost use Rattle.flat_verify.specs.Safe.{IsSafeAlways};
 ghost use Rattle.flat_verify.specs.Views.{blocks_of, AreSmall};
 
@@ -28,6 +29,8 @@ pub fn verify<'a>(
     requires small { AreSmall layout.now.globals }
     // It is verified exactly where nothing breaks the discipline, and refused at exactly the first place that does.
     ensures answers { Answers g (blocks_of layout.now) (code_of code.now) result }
+    // So code that keeps the discipline is never refused.
+    ensures accepts { IsDisciplined g (blocks_of layout.now) (code_of code.now) → IsNoRefusal result }
     ensures code { IfOk result (λ v. v.code.now ≡ code.now) }
     ensures layout { IfOk result (λ v. v.layout.now ≡ layout.now) }
     ensures exponent { IfOk result (λ v. v.exponent ≡ g) }

@@ -175,6 +175,7 @@ fn plain_demand(
     })
 }
 
+// The same behind other demands.
 fn push_plain(
     alloc: Global,
     scene: &Scene,

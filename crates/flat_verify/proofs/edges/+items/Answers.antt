@@ -11,7 +11,7 @@ use Rattle.flat_verify.specs.Links.{Link, links, links_all}
 use Rattle.flat_verify.specs.Scenes.{setting_of}
 use Rattle.flat_verify.specs.Told.{here_of}
 use Rattle.flat_verify.specs.Views.{link_of}
-use Rattle.flat_verify.proofs.Demanded.{ways_made, block_made, loop_made, inner_made}
+use Rattle.flat_verify.proofs.Demanded.{ways_made, entered, block_made, loop_made, inner_made}
 use Rattle.flat_verify.proofs.Walked.{one_in, item_size, whole_rest, both_same}
 use Rattle.flat_verify.proofs.edges.+items.Goals as goal
 
@@ -25,26 +25,20 @@ push_item-returns-in_ok-push_items-in-If-2 t c =
     c.told_in_branch-inside.ensures c.deref-in-If-3.ensures.value c.in_ok-push_items-in-If.ensures
     c.nothing_told-untold.ensures c.deref-in-If-4.ensures.value c.in_ok-push_items-in-If-2.ensures
 
-pub push_item-returns-in_ok-push_items-in-Block : goal.push_item-returns-in_ok-push_items-in-Block
-push_item-returns-in_ok-push_items-in-Block t c =
-    block_made (setting_of c.args.scene.now) c.args.scene.now.exponent (here_of c.args.told.now) (here_of c.nothing_told-untold-in-Block.result) c.args.place _ c.args.after _ c.args.exits.now c.deref-in-Block-2.result.now
-    c.in-Block.body.items c.deref-in-Block.result.now c.deref-in-Block-3.result.now (step_of c.args.step.now) _ _ _
-    (ap step_of c.in-Block.is ∙ view-Block c.in-Block.body) c.in_ok-first-in-Block.ensures c.deref-in-Block.ensures.value (c.entry_of-in-Block.ensures c.args.scene.now.exponent) c.in_ok-push_goes-in-Block.ensures
-    c.nothing_told-untold-in-Block.ensures c.deref-in-Block-3.ensures.value (c.deref-in-Block-2.ensures.value ∙ c.in_ok-around-in-Block.ensures) c.in_ok-push_items-in-Block.ensures
+pub push_item-returns-in_ok-push_body-in-Block : goal.push_item-returns-in_ok-push_body-in-Block
+push_item-returns-in_ok-push_body-in-Block t c =
+    block_made (setting_of c.args.scene.now) c.args.scene.now.exponent (here_of c.args.told.now) c.args.place c.args.after c.args.exits.now c.deref-in-Block.result.now c.in-Block.body.items c.deref-in-Block-2.result.now (step_of c.args.step.now) _ _
+    (ap step_of c.in-Block.is ∙ view-Block c.in-Block.body) c.deref-in-Block-2.ensures.value (c.deref-in-Block.ensures.value ∙ c.in_ok-around-in-Block.ensures) c.in_ok-push_body-in-Block.ensures
 
-pub push_item-returns-in_ok-push_items-in-Loop : goal.push_item-returns-in_ok-push_items-in-Loop
-push_item-returns-in_ok-push_items-in-Loop t c =
-    loop_made (setting_of c.args.scene.now) c.args.scene.now.exponent (here_of c.args.told.now) (here_of c.nothing_told-untold-in-Loop.result) c.args.place _ c.args.after _ c.args.exits.now c.deref-in-Loop-2.result.now
-    c.in-Loop.body.items c.deref-in-Loop.result.now c.deref-in-Loop-3.result.now (step_of c.args.step.now) _ _ _
-    (ap step_of c.in-Loop.is ∙ view-Loop c.in-Loop.body) c.in_ok-first-in-Loop.ensures c.deref-in-Loop.ensures.value (c.entry_of-in-Loop.ensures c.args.scene.now.exponent) c.in_ok-push_goes-in-Loop.ensures
-    c.nothing_told-untold-in-Loop.ensures c.deref-in-Loop-3.ensures.value (c.deref-in-Loop-2.ensures.value ∙ c.in_ok-around-in-Loop.ensures) c.in_ok-push_items-in-Loop.ensures
+pub push_item-returns-in_ok-push_body-in-Loop : goal.push_item-returns-in_ok-push_body-in-Loop
+push_item-returns-in_ok-push_body-in-Loop t c =
+    loop_made (setting_of c.args.scene.now) c.args.scene.now.exponent (here_of c.args.told.now) c.args.place c.args.after c.args.exits.now c.deref-in-Loop.result.now c.in-Loop.body.items c.deref-in-Loop-2.result.now (step_of c.args.step.now) _ _
+    (ap step_of c.in-Loop.is ∙ view-Loop c.in-Loop.body) c.deref-in-Loop-2.ensures.value (c.deref-in-Loop.ensures.value ∙ c.in_ok-around-in-Loop.ensures) c.in_ok-push_body-in-Loop.ensures
 
-pub push_item-returns-in_ok-push_items-in-Inner : goal.push_item-returns-in_ok-push_items-in-Inner
-push_item-returns-in_ok-push_items-in-Inner t c =
-    inner_made (setting_of c.args.scene.now) c.args.scene.now.exponent (here_of c.args.told.now) (here_of c.nothing_told-untold-in-Inner.result) c.args.place _ c.args.after _ c.args.exits.now c.deref-in-Inner-2.result.now
-    c.in-Inner.body.items c.deref-in-Inner.result.now c.deref-in-Inner-3.result.now (step_of c.args.step.now) _ _ _
-    (ap step_of c.in-Inner.is ∙ view-Inner c.in-Inner.body) c.in_ok-first-in-Inner.ensures c.deref-in-Inner.ensures.value (c.entry_of-in-Inner.ensures c.args.scene.now.exponent) c.in_ok-push_goes-in-Inner.ensures
-    c.nothing_told-untold-in-Inner.ensures c.deref-in-Inner-3.ensures.value (c.deref-in-Inner-2.ensures.value ∙ c.in_ok-around-in-Inner.ensures) c.in_ok-push_items-in-Inner.ensures
+pub push_item-returns-in_ok-push_body-in-Inner : goal.push_item-returns-in_ok-push_body-in-Inner
+push_item-returns-in_ok-push_body-in-Inner t c =
+    inner_made (setting_of c.args.scene.now) c.args.scene.now.exponent (here_of c.args.told.now) c.args.place c.args.after c.args.exits.now c.deref-in-Inner.result.now c.in-Inner.body.items c.deref-in-Inner-2.result.now (step_of c.args.step.now) _ _
+    (ap step_of c.in-Inner.is ∙ view-Inner c.in-Inner.body) c.deref-in-Inner-2.ensures.value (c.deref-in-Inner.ensures.value ∙ c.in_ok-around-in-Inner.ensures) c.in_ok-push_body-in-Inner.ensures
 
 pub push_items-loop-i-preserved-in-Some : goal.push_items-loop-i-preserved-in-Some
 push_items-loop-i-preserved-in-Some t c =
@@ -76,3 +70,8 @@ push_items-loop-i-preserved t c =
     (c.in_ok-push_item.ensures ∙ ap (λ n. map link_of c.loop-i.links.items ++ links g s (here_of c.loop-i.told) item c.loop-i.next n c.args.exits.now)
     (c.place_left-to-in-loop-i.ensures g ∙ ap (λ k. first_place (items_from g k (steps_of (drop (c.loop-i.i + 1) c.args.steps.now))) c.in_ok-behind-2.behind c.args.after) (sym zero)
     ∙ ap (λ n. first_place (items_from g c.loop-i.skip (steps_of (drop (c.loop-i.i + 1) c.args.steps.now))) n c.args.after) behind)) c.loop-i.invariant
+
+pub push_body-returns : goal.push_body-returns
+push_body-returns t c =
+    entered (setting_of c.args.scene.now) c.args.scene.now.exponent (here_of c.nothing_told-told.result) c.args.place _ c.args.after _ c.args.exits.now c.args.body.now _ _ _
+    c.in_ok-first.ensures (c.entry_of-to.ensures c.args.scene.now.exponent) c.in_ok-push_goes.ensures c.nothing_told-told.ensures c.in_ok-push_items.ensures

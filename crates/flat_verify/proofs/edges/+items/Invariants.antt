@@ -9,10 +9,13 @@ use Rattle.flat_verify.specs.Views.{link_of}
 use Rattle.flat_verify.proofs.edges.+items.Given as goal
 
 abbrev pub decreases-push_item : goal.decreases-push_item
-decreases-push_item l = 2 * step_places (step_of l.step.now)
+decreases-push_item l = 3 * step_places (step_of l.step.now)
 
 abbrev pub decreases-push_items : goal.decreases-push_items
-decreases-push_items l = 2 * steps_places (steps_of l.steps.now) + 1
+decreases-push_items l = 3 * steps_places (steps_of l.steps.now) + 1
+
+abbrev pub decreases-push_body : goal.decreases-push_body
+decreases-push_body l = 3 * steps_places (steps_of l.body.now) + 2
 
 abbrev pub invariant-push_items-loop-i : goal.invariant-push_items-loop-i
 invariant-push_items-loop-i l =
