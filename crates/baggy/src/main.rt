@@ -4,12 +4,14 @@
 mod files;
 mod streams;
 
-ghost use Rattle.std.specs.Prelude.{◌≡◌, drop};
+ghost use Rattle.std.specs.Prelude.{◌≡◌, drop, map};
 ghost use Rattle.std.specs.Process.{exit_status};
+ghost use Rattle.std.specs.String.{string_bytes};
+ghost use Rattle.baggy_tool.specs.Calls.{Meets, files, streams, noting};
 
 use baggy_tool::ending::Ended;
 use baggy_tool::run::baggy_run;
-use bb_outside::{Sink, SinkFailed};
+use bb_outside::{Shelf, Sink, SinkFailed, Source};
 use files::DirShelf;
 use std::alloc::Global;
 use std::env;
@@ -46,14 +48,23 @@ fn main(rt: HostRuntime) -> ExitCode {
 }
 
 // Calls the tool. Each stream has a type of its own, so none stands for another.
-fn call<R: Files>(
+fn call<'a, R: Files>(
     alloc: Global,
     words: &[String],
-    shelf: &mut DirShelf<'_, R>,
+    shelf: &mut DirShelf<'a, R>,
     input: &mut StdinSource<Stdin>,
     output: &mut StdoutSink<Stdout>,
     notes: &mut StderrSink<Stderr>,
-) -> Ended {
+) -> Ended
+    ensures { Meets (map string_bytes words.now)
+        (files (⟦<DirShelf<'a, R> as Shelf>⟧.file shelf.old) (⟦<DirShelf<'a, R> as Shelf>⟧.faults shelf.old) (⟦<DirShelf<'a, R> as Shelf>⟧.misses shelf.old))
+        (files (⟦<DirShelf<'a, R> as Shelf>⟧.file shelf.new) (⟦<DirShelf<'a, R> as Shelf>⟧.faults shelf.new) (⟦<DirShelf<'a, R> as Shelf>⟧.misses shelf.new))
+        (streams (⟦<StdinSource<Stdin> as Source>⟧.left input.old) (⟦<StdinSource<Stdin> as Source>⟧.is_over input.old) (⟦<StdinSource<Stdin> as Source>⟧.faults input.old) (⟦<StdoutSink<Stdout> as Sink>⟧.written output.old) (⟦<StdoutSink<Stdout> as Sink>⟧.faults output.old))
+        (streams (⟦<StdinSource<Stdin> as Source>⟧.left input.new) (⟦<StdinSource<Stdin> as Source>⟧.is_over input.new) (⟦<StdinSource<Stdin> as Source>⟧.faults input.new) (⟦<StdoutSink<Stdout> as Sink>⟧.written output.new) (⟦<StdoutSink<Stdout> as Sink>⟧.faults output.new))
+        (noting (⟦<StderrSink<Stderr> as Sink>⟧.written notes.old) (⟦<StderrSink<Stderr> as Sink>⟧.faults notes.old))
+        (noting (⟦<StderrSink<Stderr> as Sink>⟧.written notes.new) (⟦<StderrSink<Stderr> as Sink>⟧.faults notes.new))
+        result }
+{
     baggy_run(alloc, words, shelf, input, output, notes)
 }
 

@@ -33,13 +33,13 @@ use Rattle.baggy_tool.specs.declared.build.BuildError.{BuildError}
 use Rattle.baggy_tool.specs.declared.build.BuildError.TheVariants as build
 use Rattle.baggy_tool.specs.Building.{Builds, BuildsSum, RunsImage, WritesImage}
 use Rattle.baggy_tool.specs.Accepted.{numbers_of, ExitsWithSum, IsImageOf}
-use Rattle.baggy_tool.specs.Calls.{Streams, Files, Noting, RunsTo, AnswersRun, IsSpelled, AnswersExec, WritesTo, AnswersCompile, Answers, AnswersWords, IsKept, Notes}
+use Rattle.baggy_tool.specs.Calls.{Streams, Files, Noting, RunsTo, AnswersRun, IsSpelled, AnswersExec, WritesTo, AnswersCompile, AnswersCheck, Answers, AnswersWords, IsKept, Notes}
 use Rattle.baggy_tool.specs.Code.{IsCompiled}
 use Rattle.baggy_tool.specs.Endings.{ending_of, line_of}
 use Rattle.baggy_tool.specs.Files.{most_source, most_image, IsFile}
 use Rattle.baggy_tool.specs.Form.{Sum, HasSummands, value_of}
 use Rattle.baggy_tool.specs.Notes.{IsAppended}
-use Rattle.baggy_tool.specs.Words.{Request, Run, Exec, Compile}
+use Rattle.baggy_tool.specs.Words.{Request, Run, Exec, Compile, Check}
 use Rattle.baggy_tool.proofs.Machine.{MachineLaws}
 use Rattle.baggy_tool.proofs.FormLemmas.{found_small, found_count, found_sum}
 use Rattle.baggy_tool.proofs.Simulation.{AreSmall, words_length, image_exits, image_only_exits, image_is_quiet}
@@ -223,6 +223,12 @@ file_compiles file path before after mid b old text image e f s le h = by image 
     by None ending.NoMemory h = refl
     by None e h = record { text = text; read = f; answers = (h, refl) }
 
+pub file_checks : (file : List ℕ) (before after : Files) (old : Streams) (text : List ℕ) (e : Ending) → IsFile most_source (before.file file) text → AnswersCheck text None e → Answers (Check file) before after old old None e
+file_checks file before after old text ending.NoFile f h = absurd h
+file_checks file before after old text ending.FileFault f h = absurd h
+file_checks file before after old text ending.NoMemory f h = refl
+file_checks file before after old text e f h = record { text = text; read = f; answers = (h, refl) }
+
 -- ---- The words and the notes
 
 pub words_want : (r : Option Request) (before : Files) (old : Streams) (image : Option Image) (e : Ending) → image ≡ None → e ≡ ending.NoMemory → AnswersWords r before before old old image e
@@ -255,6 +261,8 @@ no_fault_before (Some (Exec file n)) before after old new None h = h.answers
 no_fault_before (Some (Exec file n)) before after old new (Some image) h = no_note_fault n image old new h.answers.1
 no_fault_before (Some (Compile file path)) before after old new None h = h.answers.0
 no_fault_before (Some (Compile file path)) before after old new (Some image) h = h.answers.0.1
+no_fault_before (Some (Check file)) before after old new None h = h.answers.0
+no_fault_before (Some (Check file)) before after old new (Some image) h = h.answers.0
 
 -- no call ends by a fault of the notes before it notes anything
 pub not_noted_yet : (r : Option Request) (before after : Files) (old new : Streams) (e : Ending) (image : Option Image) → AnswersWords r before after old new image e → e ≢ ending.NoteFault

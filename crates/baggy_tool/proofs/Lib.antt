@@ -9,5 +9,6 @@ pub mod Files
 pub mod Noting
 pub mod Machine
 pub mod Simulation
+pub mod Sources
 pub mod Answering
 pub mod CommandLine

@@ -1,5 +1,5 @@
 -- Which sources are accepted, and with which program; which are refused, and how; and which images are right for a
--- program. Of C this is the form that is built so far: a program is a sum.
+-- program. Of the files of C those of one form are built so far: a program is a sum.
 use Rattle.std.specs.Prelude.{◌≡◌, ℕ, ◌+◌, ◌*◌, ◌%◌, ◌<◌, ◌≤◌, false, List, length, Some, All}
 use Rattle.rv_image.specs.declared.image.Image.{Image}
 use Rattle.rv_image.specs.Rules.{IsImage, slot_of}
@@ -9,8 +9,7 @@ use Rattle.rv_machine.specs.Machine.{machine_after, IsBeforeCall}
 use Rattle.rv_machine.specs.Safety.{SafeRun}
 use Rattle.baggy_tool.specs.declared.ending.Refusal.{Refusal}
 use Rattle.baggy_tool.specs.declared.ending.Refusal.TheVariants as refusal
-use Rattle.baggy_tool.specs.declared.ending.CompileError.TheVariants as compile
-use Rattle.baggy_tool.specs.declared.ending.LexError.TheVariants as lex
+use Rattle.baggy_tool.specs.Sources.{IsSource, RefusesSource}
 use Rattle.baggy_tool.specs.Form.{Sum, IsForm, HasNoForm, value_of, summands_of}
 
 -- ---- Sources
@@ -20,14 +19,13 @@ Program = Sum
 
 -- the source is accepted with this program
 abbrev pub Accepts : List ℕ → Program → Type 0
-Accepts text sum = (length text ≤ 1048576) × IsForm text sum
+Accepts text sum = IsSource text × IsForm text sum
 
 -- the source is refused so
 abbrev pub Refuses : List ℕ → Refusal → Type 0
-Refuses text (refusal.Source (compile.Lex (lex.TooLong n))) = (1048576 < length text) × (n ≡ length text)
-Refuses text (refusal.Source compile.Memory) = ⊥
+Refuses text (refusal.Source error) = RefusesSource text error
 Refuses text (refusal.Image error) = ⊥
-Refuses text refusal.NotBuilt = (length text ≤ 1048576) × HasNoForm text
+Refuses text refusal.NotBuilt = IsSource text × HasNoForm text
 
 -- ---- Images
 

@@ -16,11 +16,20 @@ use Rattle.baggy_tool.specs.declared.reader.ReadError.TheVariants as read
 use Rattle.baggy_tool.specs.Code.{IsCompiled}
 use Rattle.baggy_tool.specs.Files.{IsFile, IsAbsent}
 use Rattle.baggy_tool.specs.Form.{HasSummands}
+use Rattle.baggy_tool.specs.declared.ending.CompileError.{CompileError}
+use Rattle.baggy_tool.specs.declared.ending.CompileError.TheVariants as compile
+use Rattle.baggy_tool.specs.declared.ending.Refusal.TheVariants as refusal
+use Rattle.baggy_tool.specs.Sources.{IsSource}
 use Rattle.baggy_tool.specs.Accepted.{Refuses, IsImageOf}
+
+-- want of memory is one error, and each other one a refusal
+abbrev pub of_source : CompileError → BuildError
+of_source compile.Memory = build.Memory
+of_source error = build.Refused (refusal.Source error)
 
 -- the image is that of the text's sum, or the refusal is the text's
 abbrev pub BuildsSum : List ℕ → Result Image BuildError → Type 0
-BuildsSum text (Ok image) = (length text ≤ 1048576) × (summands : List Summand) × HasSummands text summands × IsCompiled summands image
+BuildsSum text (Ok image) = IsSource text × (summands : List Summand) × HasSummands text summands × IsCompiled summands image
 BuildsSum text (Err (build.Refused refusal)) = Refuses text refusal
 BuildsSum text (Err build.Memory) = Unit {0}
 

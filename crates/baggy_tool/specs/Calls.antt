@@ -14,13 +14,14 @@ use Rattle.rv_machine.specs.Start.{start}
 use Rattle.rv_machine.specs.Runs.{Shown, Stops, FaultCause, fault_of}
 use Rattle.baggy_tool.specs.declared.ending.Ended.{Ended}
 use Rattle.baggy_tool.specs.declared.ending.Ending.{Ending}
-use Rattle.baggy_tool.specs.declared.ending.Ending.TheVariants.{Wrote, Refused, Usage, NoFile, FileFault, NoteFault, NoMemory}
+use Rattle.baggy_tool.specs.declared.ending.Ending.TheVariants.{Wrote, Checked, Refused, Usage, NoFile, FileFault, NoteFault, NoMemory}
 use Rattle.baggy_tool.specs.declared.ending.Refusal.TheVariants as refusal
+use Rattle.baggy_tool.specs.Sources.{IsSource, RefusesSource}
 use Rattle.baggy_tool.specs.Accepted.{Refuses, IsImageOf}
 use Rattle.baggy_tool.specs.Endings.{status_of, ending_of, line_of}
 use Rattle.baggy_tool.specs.Files.{most_source, most_image, IsFile, IsAbsent}
 use Rattle.baggy_tool.specs.Notes.{IsAppended, IsCutOff}
-use Rattle.baggy_tool.specs.Words.{Request, Run, Exec, Compile, request_of}
+use Rattle.baggy_tool.specs.Words.{Request, Run, Exec, Compile, Check, request_of}
 
 -- ---- What the outside shows at one moment
 
@@ -99,6 +100,13 @@ AnswersCompile text old new faults faults' None (Refused error) = Refuses text e
 AnswersCompile text old new faults faults' None NoMemory = Unit {0}
 AnswersCompile text old new faults faults' None ending = ⊥
 
+-- A source is read alone: it is accepted, or refused.
+abbrev pub AnswersCheck : (text : List ℕ) → Option Image → Ending → Type 0
+AnswersCheck text None Checked = IsSource text
+AnswersCheck text None (Refused (refusal.Source error)) = RefusesSource text error
+AnswersCheck text None NoMemory = Unit {0}
+AnswersCheck text image ending = ⊥
+
 -- ---- FILE
 
 -- it was read, and is answered so by its bytes
@@ -114,11 +122,14 @@ AnswersRead (Exec file n) before after old new image ending =
     AnswersFile most_image (before.file file) (λ bytes. AnswersExec bytes n old new image ending)
 AnswersRead (Compile file path) before after old new image ending =
     AnswersFile most_source (before.file file) (λ text. AnswersCompile text (before.file path) (after.file path) before.faults after.faults image ending × (new ≡ old))
+AnswersRead (Check file) before after old new image ending =
+    AnswersFile most_source (before.file file) (λ text. AnswersCheck text image ending × (new ≡ old))
 
 abbrev pub file_of : Request → List ℕ
 file_of (Run file n) = file
 file_of (Exec file n) = file
 file_of (Compile file path) = file
+file_of (Check file) = file
 
 -- How a request is answered, but for the notes. The cases exclude each other, so each ending comes exactly where its case
 -- holds, up to faults of the outside and want of memory.

@@ -13,9 +13,11 @@ use Rattle.baggy_tool.specs.declared.ending.Ending.TheVariants.{Exited, Reported
 use Rattle.baggy_tool.specs.declared.ending.Refusal.{Refusal}
 use Rattle.baggy_tool.specs.declared.ending.Refusal.TheVariants.{Source, Image, NotBuilt}
 use Rattle.baggy_tool.specs.declared.ending.CompileError.{CompileError}
-use Rattle.baggy_tool.specs.declared.ending.CompileError.TheVariants.{Lex, Memory}
-use Rattle.baggy_tool.specs.declared.ending.LexError.{LexError}
-use Rattle.baggy_tool.specs.declared.ending.LexError.TheVariants.{TooLong}
+use Rattle.baggy_tool.specs.declared.ending.CompileError.TheVariants as compile
+use Rattle.c_lexer.specs.declared.fault.LexError.{LexError}
+use Rattle.c_lexer.specs.declared.fault.LexError.TheVariants as lex
+use Rattle.c_parser.specs.declared.parser.ParseError.{ParseError}
+use Rattle.c_parser.specs.declared.parser.ParseError.TheVariants as parse
 
 -- the status of the process
 abbrev pub status_of : Ending → ℕ
@@ -67,11 +69,23 @@ abbrev pub numbered : List ℕ → ℕ → List ℕ
 numbered text n = text ++ (decimal n ++ codes "\n")
 
 abbrev pub lex_line : LexError → List ℕ
-lex_line (TooLong length) = numbered (codes "baggy: refused TooLong length ") length
+lex_line (lex.TooLong length) = numbered (codes "baggy: refused TooLong length ") length
+lex_line (lex.BadByte line) = numbered (codes "baggy: refused BadByte at line ") line
+lex_line (lex.BadNumber line) = numbered (codes "baggy: refused BadNumber at line ") line
+lex_line (lex.BadEscape line) = numbered (codes "baggy: refused BadEscape at line ") line
+lex_line (lex.Unclosed line) = numbered (codes "baggy: refused Unclosed at line ") line
+lex_line (lex.BadDirective line) = numbered (codes "baggy: refused BadDirective at line ") line
+lex_line lex.Memory = []
+
+abbrev pub parse_line : ParseError → List ℕ
+parse_line (parse.Syntax token line) = (codes "baggy: refused Syntax token " ++ decimal token) ++ numbered (codes " at line ") line
+parse_line (parse.TooDeep token line) = (codes "baggy: refused TooDeep token " ++ decimal token) ++ numbered (codes " at line ") line
+parse_line parse.Memory = []
 
 abbrev pub compile_line : CompileError → List ℕ
-compile_line (Lex error) = lex_line error
-compile_line Memory = []
+compile_line (compile.Lex error) = lex_line error
+compile_line (compile.Parse error) = parse_line error
+compile_line compile.Memory = []
 
 abbrev pub image_line : ImageError → List ℕ
 image_line (image.Short need have) = (codes "baggy: refused Short need " ++ decimal need) ++ numbered (codes " have ") have

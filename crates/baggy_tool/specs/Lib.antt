@@ -3,6 +3,7 @@ pub mod Reading
 pub mod Decimal
 pub mod Code
 pub mod Words
+pub mod Sources
 pub mod Accepted
 pub mod Endings
 pub mod Files

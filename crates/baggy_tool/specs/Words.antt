@@ -21,6 +21,8 @@ pub data Request : Type 0 where
   Exec : (file : List ℕ) (steps : ℕ) → Request
   -- a source is compiled, and its image is written to a file
   Compile : (file path : List ℕ) → Request
+  -- a source is read, and refused as a run would refuse it
+  Check : (file : List ℕ) → Request
 
 -- how many instructions a run has where the words don't say; the number does not unfold by itself, since it is large
 unfoldable pub default_steps : ℕ
@@ -63,11 +65,16 @@ abbrev pub exec_of : List ℕ → Option ℕ → Option Request
 exec_of file None = None
 exec_of file (Some steps) = Some (Exec file steps)
 
+abbrev pub check_of : List ℕ → Option (List ℕ) → Option Request
+check_of file None = Some (Check file)
+check_of file (Some steps) = None
+
 -- a mode with the options that it may have: --steps with run and exec, --out always with compile and never else
 abbrev pub with_mode : (mode file : List ℕ) (steps out : Option (List ℕ)) → Option Request
 with_mode mode file steps None =
     if bytes_eq mode (codes "run") then run_of file (steps_in steps)
     else if bytes_eq mode (codes "exec") then exec_of file (steps_in steps)
+    else if bytes_eq mode (codes "check") then check_of file steps
     else None
 with_mode mode file None (Some path) = if bytes_eq mode (codes "compile") then Some (Compile file path) else None
 with_mode mode file (Some steps) (Some path) = None
@@ -98,3 +105,4 @@ abbrev pub request : Command → Request
 request (command.Run file steps) = Run file.now steps
 request (command.Exec file steps) = Exec file.now steps
 request (command.Compile file path) = Compile file.now path.now
+request (command.Check file) = Check file.now

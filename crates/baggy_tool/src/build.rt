@@ -5,9 +5,9 @@ ghost use Rattle.baggy_tool.specs.Files.{most_source};
 ghost use Rattle.baggy_tool.specs.declared.build.BuildError.TheVariants.{Memory};
 
 use crate::code::compile;
-use crate::ending::{CompileError, LexError, Refusal};
+use crate::ending::{CompileError, Refusal};
 use crate::form::read_form;
-use crate::reader::MAX_SOURCE;
+use crate::source::read_source;
 use rv_image::image::Image;
 use rv_machine::laws;
 use std::alloc::{AllocError, Global};
@@ -24,6 +24,20 @@ impl From<AllocError> for BuildError {
 
     fn from(_: AllocError) -> Self {
         BuildError::Memory
+    }
+}
+
+impl From<CompileError> for BuildError {
+    ghost use Rattle.std.specs.Prelude.{◌≡◌};
+    ghost use Rattle.baggy_tool.specs.Building.{of_source};
+
+    ghost from_gives = { λ error e. e ≡ of_source error };
+
+    fn from(error: CompileError) -> BuildError {
+        match error {
+            CompileError::Memory => BuildError::Memory,
+            error => BuildError::Refused(Refusal::Source(error)),
+        }
     }
 }
 
@@ -48,11 +62,7 @@ fn build_sum(alloc: Global, text: &[u8]) -> Result<Image, BuildError>
     requires { length text.now ≤ most_source + 1 }
     ensures { BuildsSum text.now result }
 {
-    if text.len() > MAX_SOURCE {
-        let length = text.len() as u32;
-        let error = CompileError::Lex(LexError::TooLong { length });
-        return Err(BuildError::Refused(Refusal::Source(error)));
-    }
+    read_source(alloc, text)?;
     match read_form(alloc, text)? {
         None => Err(BuildError::Refused(Refusal::NotBuilt)),
         Some(summands) => Ok(compile(alloc, &summands)?),

@@ -3,21 +3,19 @@ ghost use Rattle.std.specs.Prelude.{◌≡◌};
 ghost use Rattle.baggy_tool.specs.Endings.{status_of, ending_of};
 
 use bb_words::kinds::{ReportKind, TrapKind};
+use c_lexer::LexError;
+use c_parser::ParseError;
 use rv_image::error::ImageError;
 use rv_image::image::Image;
 use rv_machine::stop::Stop;
 
-/// Why a text is no list of tokens.
-#[derive(Debug, Drop)]
-pub enum LexError {
-    /// The text has more bytes than a source may have; `length` of them were read.
-    TooLong { length: u32 },
-}
-
 /// Why a source has no image.
 #[derive(Debug, Drop)]
 pub enum CompileError {
+    /// The text has no tokens.
     Lex(LexError),
+    /// The tokens are no file of C.
+    Parse(ParseError),
     /// No refusal of a call holds this variant: want of memory is the ending `NoMemory`.
     Memory,
 }

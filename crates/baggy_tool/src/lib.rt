@@ -11,4 +11,5 @@ mod form;
 mod notes;
 mod reader;
 pub mod run;
+mod source;
 mod words;

@@ -1,12 +1,14 @@
 //! The line that is noted of an ending.
-ghost use Rattle.std.specs.Prelude.{◌≡◌, ◌++◌};
+ghost use Rattle.std.specs.Prelude.{◌≡◌, ◌++◌, decimal};
 ghost use Rattle.bb_outside.specs.Causes.{HasCause};
-ghost use Rattle.baggy_tool.specs.Endings.{line_of, refusal_line, compile_line, image_line, lex_line, numbered, report_name, trap_name};
+ghost use Rattle.baggy_tool.specs.Endings.{line_of, refusal_line, compile_line, image_line, lex_line, parse_line, numbered, report_name, trap_name};
 ghost use Rattle.baggy_tool.specs.Notes.{Noted};
 
-use crate::ending::{CompileError, Ending, LexError, Refusal};
+use crate::ending::{CompileError, Ending, Refusal};
 use bb_outside::{Sink, SinkFailed};
 use bb_words::kinds::{ReportKind, TrapKind};
+use c_lexer::LexError;
+use c_parser::ParseError;
 use itoa::Buffer;
 use rv_image::error::ImageError;
 
@@ -65,23 +67,62 @@ fn note_compile_error<E: Sink>(notes: &mut E, error: &CompileError) -> Result<()
     ensures cause { HasCause (E.faults notes.old) (E.faults notes.new) result }
 {
     match error {
-        CompileError::Lex(error) => note_lex_error(notes, error),
+        CompileError::Lex(error) => note_lex_error(notes, *error),
+        CompileError::Parse(error) => note_parse_error(notes, *error),
         CompileError::Memory => Ok(()),
     }
 }
 
-fn note_lex_error<E: Sink>(notes: &mut E, error: &LexError) -> Result<(), SinkFailed>
-    ensures noted { Noted result (lex_line error.now) (E.written notes.old) (E.written notes.new) }
+fn note_lex_error<E: Sink>(notes: &mut E, error: LexError) -> Result<(), SinkFailed>
+    ensures noted { Noted result (lex_line error) (E.written notes.old) (E.written notes.new) }
     ensures cause { HasCause (E.faults notes.old) (E.faults notes.new) result }
 {
-    put_numbered(notes, b"baggy: refused TooLong length ", too_long(error))
+    match error {
+        LexError::TooLong { length } => {
+            put_numbered(notes, b"baggy: refused TooLong length ", length)
+        }
+        LexError::BadByte { line } => put_numbered(notes, b"baggy: refused BadByte at line ", line),
+        LexError::BadNumber { line } => {
+            put_numbered(notes, b"baggy: refused BadNumber at line ", line)
+        }
+        LexError::BadEscape { line } => {
+            put_numbered(notes, b"baggy: refused BadEscape at line ", line)
+        }
+        LexError::Unclosed { line } => {
+            put_numbered(notes, b"baggy: refused Unclosed at line ", line)
+        }
+        LexError::BadDirective { line } => {
+            put_numbered(notes, b"baggy: refused BadDirective at line ", line)
+        }
+        LexError::Memory => Ok(()),
+    }
 }
 
-fn too_long(error: &LexError) -> u32
-    ensures { error.now ≡ LexError.TooLong result }
+fn note_parse_error<E: Sink>(notes: &mut E, error: ParseError) -> Result<(), SinkFailed>
+    ensures noted { Noted result (parse_line error) (E.written notes.old) (E.written notes.new) }
+    ensures cause { HasCause (E.faults notes.old) (E.faults notes.new) result }
 {
-    let LexError::TooLong { length } = error;
-    *length
+    match error {
+        ParseError::Syntax { token, line } => {
+            put_two(
+                notes,
+                b"baggy: refused Syntax token ",
+                token,
+                b" at line ",
+                line,
+            )
+        }
+        ParseError::TooDeep { token, line } => {
+            put_two(
+                notes,
+                b"baggy: refused TooDeep token ",
+                token,
+                b" at line ",
+                line,
+            )
+        }
+        ParseError::Memory => Ok(()),
+    }
 }
 
 fn note_image_error<E: Sink>(notes: &mut E, error: ImageError) -> Result<(), SinkFailed>
@@ -89,7 +130,13 @@ fn note_image_error<E: Sink>(notes: &mut E, error: ImageError) -> Result<(), Sin
     ensures cause { HasCause (E.faults notes.old) (E.faults notes.new) result }
 {
     match error {
-        ImageError::Short { need, have } => note_short(notes, need, have),
+        ImageError::Short { need, have } => put_two(
+            notes,
+            b"baggy: refused Short need ",
+            need,
+            b" have ",
+            have,
+        ),
         ImageError::BadMagic => put(notes, b"baggy: refused BadMagic\n"),
         ImageError::BadVersion { version } => {
             put_numbered(notes, b"baggy: refused BadVersion ", version)
@@ -98,19 +145,6 @@ fn note_image_error<E: Sink>(notes: &mut E, error: ImageError) -> Result<(), Sin
         ImageError::Extra { at } => put_numbered(notes, b"baggy: refused Extra at ", at),
         ImageError::Memory => Ok(()),
     }
-}
-
-fn note_short<E: Sink>(notes: &mut E, need: u32, have: u32) -> Result<(), SinkFailed>
-    ensures noted { Noted result (image_line (ImageError.Short need have)) (E.written notes.old) (E.written notes.new) }
-    ensures cause { HasCause (E.faults notes.old) (E.faults notes.new) result }
-{
-    let mut buffer = Buffer::new();
-    put_both(
-        notes,
-        b"baggy: refused Short need ",
-        buffer.format(need).as_bytes(),
-    )?;
-    put_numbered(notes, b" have ", have)
 }
 
 fn report_name(kind: ReportKind) -> &'static [u8]
@@ -150,6 +184,22 @@ fn put_numbered<E: Sink>(notes: &mut E, text: &[u8], number: u32) -> Result<(), 
     let mut buffer = Buffer::new();
     put(notes, text)?;
     put_both(notes, buffer.format(number).as_bytes(), b"\n")
+}
+
+// Writes a text and a number, and a second text, a number and a line feed.
+fn put_two<E: Sink>(
+    notes: &mut E,
+    text: &[u8],
+    number: u32,
+    second: &[u8],
+    last: u32,
+) -> Result<(), SinkFailed>
+    ensures noted { Noted result ((text.now ++ decimal number) ++ numbered second.now last) (E.written notes.old) (E.written notes.new) }
+    ensures cause { HasCause (E.faults notes.old) (E.faults notes.new) result }
+{
+    let mut buffer = Buffer::new();
+    put_both(notes, text, buffer.format(number).as_bytes())?;
+    put_numbered(notes, second, last)
 }
 
 // Writes one text and then another.

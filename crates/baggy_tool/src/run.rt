@@ -4,15 +4,16 @@ ghost use Rattle.std.specs.String.{string_bytes};
 ghost use Rattle.bb_outside.specs.Files.{Stays};
 ghost use Rattle.rv_image.specs.Rules.{IsImage};
 ghost use Rattle.baggy_tool.specs.Endings.{status_of};
-ghost use Rattle.baggy_tool.specs.Words.{Run, Exec, Compile, request, request_of};
+ghost use Rattle.baggy_tool.specs.Words.{Run, Exec, Compile, Check, request, request_of};
 ghost use Rattle.baggy_tool.specs.Building.{unread, RunsImage, WritesImage};
 ghost use Rattle.baggy_tool.specs.Files.{most_source, most_image};
-ghost use Rattle.baggy_tool.specs.Calls.{Meets, AnswersWords, Answers, AnswersRun, AnswersExec, AnswersCompile, IsKept, Notes, Streams, files, streams, noting};
+ghost use Rattle.baggy_tool.specs.Calls.{Meets, AnswersWords, Answers, AnswersRun, AnswersExec, AnswersCompile, AnswersCheck, IsKept, Notes, Streams, files, streams, noting};
 
 use crate::build::{BuildError, build};
-use crate::ending::{Ended, Ending, Refusal, ending_of, status_of};
+use crate::ending::{CompileError, Ended, Ending, Refusal, ending_of, status_of};
 use crate::notes::note;
 use crate::reader::{MAX_IMAGE, MAX_SOURCE, ReadError, read_file};
+use crate::source::read_source;
 use crate::words::{Command, command_in};
 use bb_outside::{Shelf, ShelfFailed, Sink, Source};
 use rv_image::image::Image;
@@ -95,6 +96,7 @@ fn answer_command<F: Shelf, I: Source, O: Sink>(
         Command::Run { file, steps } => answer_run(alloc, file, steps, shelf, input, output),
         Command::Exec { file, steps } => answer_exec(alloc, file, steps, shelf, input, output),
         Command::Compile { file, path } => answer_compile(alloc, file, path, shelf),
+        Command::Check { file } => answer_check(alloc, file, shelf),
     }
 }
 
@@ -158,6 +160,20 @@ fn answer_compile<F: Shelf>(alloc: Global, file: &str, path: &str, shelf: &mut F
     }
 }
 
+// Reads a source, and says whether it is accepted.
+fn answer_check<F: Shelf>(alloc: Global, file: &str, shelf: &mut F) -> Outcome
+    ensures answers { (old : Streams) → Answers (Check file.now)
+        (files (F.file shelf.old) (F.faults shelf.old) (F.misses shelf.old))
+        (files (F.file shelf.new) (F.faults shelf.new) (F.misses shelf.new))
+        old old result.image result.ending }
+    ensures files { (other : List ℕ) → Stays (F.file shelf.old other) (F.file shelf.new other) }
+{
+    match read_file(alloc, shelf, file, MAX_SOURCE) {
+        Err(e) => without_image(unread(e)),
+        Ok(text) => without_image(check_text(alloc, &text)),
+    }
+}
+
 // Makes the text's image and runs it.
 fn run_text<I: Source, O: Sink>(
     alloc: Global,
@@ -213,6 +229,20 @@ fn write_text<F: Shelf>(alloc: Global, text: &[u8], path: &str, shelf: &mut F) -
         Err(BuildError::Refused(error)) => without_image(Ending::Refused { error }),
         Err(BuildError::Memory) => without_image(Ending::NoMemory),
         Ok(image) => write_image(alloc, image, path, shelf),
+    }
+}
+
+// How a call ends that reads the text alone.
+fn check_text(alloc: Global, text: &[u8]) -> Ending
+    requires { length text.now ≤ most_source + 1 }
+    ensures { AnswersCheck text.now None result }
+{
+    match read_source(alloc, text) {
+        Err(CompileError::Memory) => Ending::NoMemory,
+        Err(error) => Ending::Refused {
+            error: Refusal::Source(error),
+        },
+        Ok(_) => Ending::Checked,
     }
 }
 

@@ -27,6 +27,8 @@ pub(crate) enum Command<'a> {
     Exec { file: &'a str, steps: u64 },
     /// A source is compiled, and its image is written to a file.
     Compile { file: &'a str, path: &'a str },
+    /// A source is read, and refused as a run would refuse it.
+    Check { file: &'a str },
 }
 
 /// What the words ask for, or none where they ask for nothing.
@@ -120,6 +122,7 @@ fn with_mode<'a>(
             let steps = steps_in(steps)?;
             Some(Command::Exec { file, steps })
         }
+        None if mode == "check" && steps.is_none() => Some(Command::Check { file }),
         Some(path) if mode == "compile" && steps.is_none() => Some(Command::Compile { file, path }),
         _ => None,
     }

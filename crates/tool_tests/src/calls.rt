@@ -53,7 +53,7 @@ const USAGE: &str =
     "usage: baggy run|compile|exec|check FILE [--steps N] [--out PATH] [--profile]\n";
 
 // The words of a call where `f.c` returns 42, its status, and its note.
-const WORDS: [(&[&str], u8, &str); 25] = [
+const WORDS: [(&[&str], u8, &str); 28] = [
     (&["run", "f.c"], 42, ""),
     (
         &["run", "f.c", "--steps", "0"],
@@ -86,6 +86,9 @@ const WORDS: [(&[&str], u8, &str); 25] = [
         125,
         USAGE,
     ),
+    (&["check", "f.c"], 0, ""),
+    (&["check", "f.c", "--steps", "5"], 125, USAGE),
+    (&["check", "f.c", "--out", "p"], 125, USAGE),
     (&["run"], 125, USAGE),
     (&["walk", "f.c"], 125, USAGE),
     (&[], 125, USAGE),
@@ -104,33 +107,81 @@ fn words_are_read(rt: HostRuntime) -> Result<(), Fail> {
 
 const NOT_BUILT: &str = "baggy: refused NotBuilt\n";
 
-// A text, the status of its run, and the note.
-const TEXTS: [(&str, u8, &str); 18] = [
-    ("int main(void) { return 40 + 2; }", 42, ""),
-    ("int main(void) { return 1 - 300; }", 213, ""),
-    ("int main(void) { return 1 - (2 - 3) - 300; }", 214, ""),
-    ("int main(void){return 2147483647 + 2147483647 + 4;}", 2, ""),
-    ("int main(void){return(1);}", 1, ""),
-    ("\nint\tmain ( void ) { return 2147483647 ; } \n", 255, ""),
-    ("", 124, NOT_BUILT),
-    ("intmain(void){return 1;}", 124, NOT_BUILT),
-    ("int main(void){return1;}", 124, NOT_BUILT),
-    ("int main(void){return 01;}", 124, NOT_BUILT),
-    ("int main(void){return 2147483648;}", 124, NOT_BUILT),
-    ("int main(void){return 1u;}", 124, NOT_BUILT),
-    ("int main(void){return -1;}", 124, NOT_BUILT),
-    ("int main(void){return (1;}", 124, NOT_BUILT),
-    ("int main(void){return 1);}", 124, NOT_BUILT),
-    ("int main(void){return 1;}\r\n", 124, NOT_BUILT),
-    ("int main(void){return 1;} // one", 124, NOT_BUILT),
-    ("int main(void){return 1;} int x;", 124, NOT_BUILT),
+// A text, the statuses of its run and of its check, and the notes of each.
+const TEXTS: [(&str, u8, &str, u8, &str); 16] = [
+    ("int main(void) { return 40 + 2; }", 42, "", 0, ""),
+    ("int main(void) { return 1 - 300; }", 213, "", 0, ""),
+    (
+        "int main(void) { return 1 - (2 - 3) - 300; }",
+        214,
+        "",
+        0,
+        "",
+    ),
+    (
+        "int main(void){return 2147483647 + 2147483647 + 4;}",
+        2,
+        "",
+        0,
+        "",
+    ),
+    ("int main(void){return(1);}", 1, "", 0, ""),
+    (
+        "\nint\tmain ( void ) { return 2147483647 ; } \n",
+        255,
+        "",
+        0,
+        "",
+    ),
+    ("int main(void){return 01;}", 124, NOT_BUILT, 0, ""),
+    ("int main(void){return 1u;}", 124, NOT_BUILT, 0, ""),
+    ("int main(void){return -1;}\r\n", 124, NOT_BUILT, 0, ""),
+    (
+        "int main(void){return 1;} // one\nint x;",
+        124,
+        NOT_BUILT,
+        0,
+        "",
+    ),
+    ("", 124, AT_START, 124, AT_START),
+    (
+        "int main(void){return (1;}",
+        124,
+        NO_BRACKET,
+        124,
+        NO_BRACKET,
+    ),
+    (
+        "int main(void)\n{\nreturn 1);}",
+        124,
+        NO_OPERAND,
+        124,
+        NO_OPERAND,
+    ),
+    ("int\nx = 2147483648;", 124, TOO_LARGE, 124, TOO_LARGE),
+    ("int x = 'ab';", 124, TWO_ELEMENTS, 124, TWO_ELEMENTS),
+    ("/*", 124, NO_END, 124, NO_END),
 ];
+
+const AT_START: &str = "baggy: refused Syntax token 0 at line 1\n";
+
+const NO_BRACKET: &str = "baggy: refused Syntax token 9 at line 1\n";
+
+const NO_OPERAND: &str = "baggy: refused Syntax token 8 at line 3\n";
+
+const TOO_LARGE: &str = "baggy: refused BadNumber at line 2\n";
+
+const TWO_ELEMENTS: &str = "baggy: refused BadEscape at line 1\n";
+
+const NO_END: &str = "baggy: refused Unclosed at line 1\n";
 
 #[test]
 fn texts_are_run(rt: HostRuntime) -> Result<(), Fail> {
-    for (text, ended, noted) in &TEXTS {
+    for (text, run, noted, check, checked) in &TEXTS {
         let got = status(rt.alloc(), &["run", "f.c"], text.as_bytes(), noted)?;
-        assert_eq!(rt; got, Some(*ended), "{text}");
+        assert_eq!(rt; got, Some(*run), "{text}");
+        let got = status(rt.alloc(), &["check", "f.c"], text.as_bytes(), checked)?;
+        assert_eq!(rt; got, Some(*check), "{text}");
     }
     Ok(())
 }
@@ -156,9 +207,9 @@ fn ones(alloc: Global, brackets: u32, further: u32) -> Result<String, AllocError
 fn two_hundred(rt: HostRuntime) -> Result<(), Fail> {
     for (brackets, further, ended, noted) in [
         (0, 199, 200, ""),
-        (0, 200, 124, NOT_BUILT),
+        (0, 200, 124, "baggy: refused TooDeep token 406 at line 1\n"),
         (199, 0, 1, ""),
-        (200, 0, 124, NOT_BUILT),
+        (200, 0, 124, "baggy: refused TooDeep token 206 at line 1\n"),
     ] {
         let text = ones(rt.alloc(), brackets, further)?;
         let got = status(rt.alloc(), &["run", "f.c"], text.as_bytes(), noted)?;

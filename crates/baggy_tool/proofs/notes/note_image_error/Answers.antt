@@ -14,3 +14,6 @@ returns-in-BadField-clause-noted g c = noted_same _ _ _ _ _ (ap image_line c.in-
 
 pub returns-in-Extra-clause-noted : goal.returns-in-Extra-clause-noted
 returns-in-Extra-clause-noted g c = noted_same _ _ _ _ _ (ap image_line c.in-Extra.is) c.put_numbered-in-Extra.ensures.noted
+
+pub returns-in-Short-clause-noted : goal.returns-in-Short-clause-noted
+returns-in-Short-clause-noted g c = noted_same _ _ _ _ _ (ap image_line c.in-Short.is) c.put_two.ensures.noted
