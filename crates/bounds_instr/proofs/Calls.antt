@@ -157,7 +157,10 @@ not_zero : (n : ℕ) → 1 ≤ n → (n == 0) ≡ false
 not_zero zero h = absurd (omega (arith, h))
 not_zero (suc n) h = eqb-suc-zero n
 
-module _ (laws : Laws) (frame_laws : FrameLaws) (steps : StepsAdvance) (programs : ProgramsAdvance) (g : ℕ) (big : 1 ≤ g) (small : g ≤ 24) (safe : SafeSites) (watch : Watch) (p : Program) (m : ℕ) (fits : (i : ℕ) (f : Function) → slice_get p.functions i ≡ Some f → FunctionFits p f) where
+module _ (laws : Laws) (frame_laws : FrameLaws) (steps : StepsAdvance) (programs : ProgramsAdvance) (g : ℕ) (big : 2 ≤ g) (small : g ≤ 24) (safe : SafeSites) (checked : (site : ℕ) → safe site ≡ false) (watch : Watch) (p : Program) (m : ℕ) (fits : (i : ℕ) (f : Function) → slice_get p.functions i ≡ Some f → FunctionFits p f) where
+  least : 1 ≤ g
+  least = omega (arith, big)
+
   abbrev functions : List FFunction
   functions = map (function_code g) p.functions
 
@@ -195,12 +198,12 @@ module _ (laws : Laws) (frame_laws : FrameLaws) (steps : StepsAdvance) (programs
       of match (Some f) e =
           let fit = fits i f e in
           let frame : slice_get (frames_of g p) i ≡ Some (frame_of g f) = slice_get-map (frame_of g) p.functions i ∙ ap (option_map (frame_of g)) e in
-          let body = λ (w : FPoint). act_all g (flat_calls n) m (function_code g f).frame (code f.values f.body) w in
+          let body = λ (w : FPoint). act_all g (flat_calls n) m (function_code g f).frame (code g f.values f.body) w in
           to_equal safe (Gave g safe fr s) _ _ _
           (ap (λ b. choose b (library g (frames_of g p) m (function_code g f) (map (word_of_value v.world.objects) xs)) (counted f.line (defined g (frames_of g p) m (flat_calls n) i (function_code g f) (map (word_of_value v.world.objects) xs))) u) (not_zero f.line fit.line)
           ∙ ap (λ o. counted f.line (λ (w : FPoint). framed_if g f.line body (map (word_of_value v.world.objects) xs) o (point w.words (flat.spend (96 + 3 * (f.values + 5)) w.world))) u) frame)
-          (called laws frame_laws g big small safe fr f s fit.blocks xs v u formed h (λ w. acts g watch (calls g watch p m n) m (names_in g p f v) f.body w) body (acts_grow n (function_code g f).frame (code f.values f.body))
-          (λ w t l. steps_follow laws g safe (inner frame_laws g safe big small fr f fit.blocks (mid.spend (128 + 3 * f.values) v) (point u.words (flat.spend (96 + 3 * (f.values + 5)) u.world))) watch (calls g watch p m n) (names_in g p f v) (flat_calls n) m (function_code g f).frame p match (acts_grow n (function_code g f).frame) f.body 0 s w t fit.body l))
+          (called laws frame_laws g least small safe fr f s fit.blocks xs v u formed h (λ w. acts g watch (calls g watch p m n) m (names_in g p f v) f.body w) body (acts_grow n (function_code g f).frame (code g f.values f.body))
+          (λ w t l. steps_follow laws g big small safe checked (inner frame_laws g safe least small fr f fit.blocks (mid.spend (128 + 3 * f.values) v) (point u.words (flat.spend (96 + 3 * (f.values + 5)) u.world))) watch (calls g watch p m n) (names_in g p f v) (flat_calls n) m (function_code g f).frame p match (acts_grow n (function_code g f).frame) f.body 0 s w t fit.body l))
 
 -- ---- Whole programs
 
@@ -269,11 +272,11 @@ outcome_is : (safe : SafeSites) (r : Goings (Unit {0})) (q : Run (Unit {0})) →
 outcome_is safe (Goes a v) q h = absurd h.by.3
 outcome_is safe (Ends e v) q h = h.by
 
-pub keeps : (laws : Laws) (frame_laws : FrameLaws) (steps : StepsAdvance) (programs : ProgramsAdvance) (g : ℕ) (big : 1 ≤ g) (small : g ≤ 24) (safe : SafeSites) (p : Program) → p.globals ≡ [] → ((i : ℕ) (f : Function) → slice_get p.functions i ≡ Some f → FunctionFits p f) → Keeps g safe p (instrumented g p)
-keeps laws frame_laws steps programs g big small safe p no_globals fits input m bytes =
+pub keeps : (laws : Laws) (frame_laws : FrameLaws) (steps : StepsAdvance) (programs : ProgramsAdvance) (g : ℕ) (big : 2 ≤ g) (small : g ≤ 24) (safe : SafeSites) (checked : (site : ℕ) → safe site ≡ false) (p : Program) → p.globals ≡ [] → ((i : ℕ) (f : Function) → slice_get p.functions i ≡ Some f → FunctionFits p f) → Keeps g safe p (instrumented g p)
+keeps laws frame_laws steps programs g big small safe checked p no_globals fits input m bytes =
     outcome_is safe (runs.mid g unwatched p input m) (flat_run g (instrumented g p) (global_blocks g p) (frames_of g p) input m)
     (follows_then safe (Gave g safe fr 0) Never (calls g unwatched p m m p.main [] (first_point g p input)) (run.calls g (frames_of g p) m (map (function_code g) p.functions) m p.main [] (start [] (global_blocks g p) input)) exit_with exited
-    (matches laws frame_laws steps programs g big small safe unwatched p m fits m fr 0 p.main [] (first_point g p input) (start [] (global_blocks g p) input) (All-nil (IsValue g (first_point g p input).world.objects)) (starts frame_laws g big small safe p input no_globals bytes))
+    (matches laws frame_laws steps programs g big small safe checked unwatched p m fits m fr 0 p.main [] (first_point g p input) (start [] (global_blocks g p) input) (All-nil (IsValue g (first_point g p input).world.objects)) (starts frame_laws g (omega (arith, big)) small safe p input no_globals bytes))
     (λ w t. grows_end t _ t refl) (λ x v w u l. exits g safe fr 0 x v w u l))
   where
     fr : Frame

@@ -23,13 +23,27 @@ append_assoc (more x xs) ys zs = ap (more x) (append_assoc xs ys zs)
 pub two_more : (s0 s1 s2 : FSteps) (x y : FStep) → s1 ≡ s0 +++ more x none → s2 ≡ s1 +++ more y none → s2 ≡ s0 +++ more x (more y none)
 two_more s0 s1 s2 x y e1 e2 = e2 ∙ ap (λ s. s +++ more y none) e1 ∙ append_assoc s0 (more x none) (more y none)
 
+-- one step, another, and a third
+pub three_more : (s0 s1 s2 s3 : FSteps) (x y z : FStep) → s1 ≡ s0 +++ more x none → s2 ≡ s1 +++ more y none → s3 ≡ s2 +++ more z none → s3 ≡ s0 +++ more x (more y (more z none))
+three_more s0 s1 s2 s3 x y z e1 e2 e3 = e3 ∙ ap (λ s. s +++ more z none) (two_more s0 s1 s2 x y e1 e2) ∙ append_assoc s0 (more x (more y none)) (more z none)
+
+-- the steps of a list and one more
+pub one_after : (xs : List FlatStep) (y : FlatStep) (s : FSteps) → steps_of xs ≡ s → steps_of (xs ++ y ∷ []) ≡ s +++ more (step_of y) none
+one_after xs y s e = steps_append xs (y ∷ []) ∙ ap (λ z. z +++ more (step_of y) none) e
+
+-- the steps of a list and of another
+pub all_after : (s0 s1 y z : FSteps) → s1 ≡ s0 +++ y → y ≡ z → s1 ≡ s0 +++ z
+all_after s0 s1 y z e h = e ∙ ap (λ x. s0 +++ x) h
+
 -- to an empty list
 pub from_nothing : (xs : List FlatStep) (s y : FSteps) → xs ≡ [] → s ≡ steps_of xs +++ y → s ≡ y
 from_nothing xs s y e h = h ∙ ap (λ z. steps_of z +++ y) e
 
-pub ruleset emitted = (append_none, two_more, from_nothing, flat_views)
+pub ruleset emitted = (append_none, two_more, three_more, from_nothing, flat_views)
 
-pub ruleset coded = (append_none, from_nothing, flat_views, step_views)
+pub ruleset moved = (one_after, flat_views)
+
+pub ruleset coded = (append_none, from_nothing, all_after, flat_views, step_views)
 
 pub next_in : {X Y : Type 0} (G : List X → Y) (xs : List X) (i : ℕ) (x : X) → i < length xs → x ≡ get_or xs i x → G (drop i xs) ≡ G (x ∷ drop (i + 1) xs)
 next_in G xs i x lt is = at_drop_more G xs i x lt ∙ ap (λ z. G (z ∷ drop (i + 1) xs)) (sym is)

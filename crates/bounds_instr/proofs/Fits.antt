@@ -6,12 +6,12 @@ use Rattle.c_typed.specs.declared.typed_expr.LibCall.{LibCall}
 use Rattle.c_typed.specs.declared.typed_expr.LibCall.TheVariants as lib
 use Rattle.mid_code.specs.Code.{Step, Steps, Function, Program}
 use Rattle.mid_code.specs.Kinds.{Kind, Kinds, Signature, ArePassed, signature_of, IsKind, AreKinds}
-use Rattle.mid_code.specs.Formed.{IsLine, IsCallOf, IsInRange, AreInRange, first_kinds, IsFunction, AreFunctions, Formed}
+use Rattle.mid_code.specs.Formed.{IsLine, IsDistance, IsCallOf, IsInRange, AreInRange, first_kinds, IsFunction, AreFunctions, Formed}
 use Rattle.block_layout.specs.Layout.{Placed, layout}
 use Rattle.flat_code.specs.Accounts.{frame_size}
 use Rattle.injection.specs.Laws.{AreSmall, FramesAreAlike, exponents}
 use Rattle.std.proofs.lemmas.List.Elements.{All-nil, All-cons, All-head, All-tail}
-use Rattle.bounds_instr.specs.Built.{is_of_numbers, is_built_step, are_built_steps, IsBuiltFunction, IsBuilt, is_none, is_built_function, are_built_functions, is_built}
+use Rattle.bounds_instr.specs.Built.{is_of_environment, is_built_step, are_built_steps, IsBuiltFunction, IsBuilt, is_none, is_built_function, are_built_functions, is_built}
 use Rattle.bounds_instr.specs.declared.instrument.TheConstants.{TEMPORARIES}
 use Rattle.bounds_instr.specs.Code.{code, frameless_code, function_code}
 
@@ -20,9 +20,9 @@ abbrev pub HasArguments : (values : ℕ) → LibCall → List ℕ → Type 0
 HasArguments n lib.Putchar args = (a : ℕ) × (args ≡ a ∷ []) × (a < n)
 HasArguments n lib.Exit args = (a : ℕ) × (args ≡ a ∷ []) × (a < n)
 HasArguments n lib.Getchar args = Unit {0}
-HasArguments n lib.Malloc args = ⊥
+HasArguments n lib.Malloc args = (a : ℕ) × (args ≡ a ∷ []) × (a < n)
 HasArguments n lib.Calloc args = ⊥
-HasArguments n lib.Free args = ⊥
+HasArguments n lib.Free args = (a : ℕ) × (args ≡ a ∷ []) × (a < n)
 HasArguments n lib.Memcpy args = ⊥
 HasArguments n lib.Memset args = ⊥
 
@@ -38,13 +38,19 @@ module _ (p : Program) (n : ℕ) where
     Fits d (Step.Divide to o a b line) = (to < n) × (a < n) × (b < n)
     Fits d (Step.PtrSame to a b) = (to < n) × (a < n) × (b < n)
     Fits d (Step.Call to f args) = (to < n) × IsCallOf p f args × All (λ a. a < n) args
-    Fits d (Step.Library to which args line a b) = (to < n) × HasArguments n which args
+    Fits d (Step.Library to which args line a b) = (to < n) × HasArguments n which args × IsLine line
     Fits d (Step.If cond xs ys) = (cond < n) × AllFit d xs × AllFit d ys
     Fits d (Step.Block body) = AllFit (suc d) body
     Fits d (Step.Loop body) = AllFit (suc d) body
     Fits d (Step.Exit k) = (1 ≤ k) × (k ≤ d)
     Fits d (Step.Return from) = from < n
     Fits d (Step.LineMark line) = IsLine line
+    Fits d (Step.PtrOrder to o a b) = (to < n) × (a < n) × (b < n)
+    Fits d (Step.PtrDiff to a b size) = (to < n) × (a < n) × (b < n) × (1 ≤ size) × (size ≤ 1048576)
+    Fits d (Step.Move site to from by scale down line) = (to < n) × (from < n) × (by < n) × (scale < 4294967296) × IsLine line
+    Fits d (Step.MoveBy site to from z line) = (to < n) × (from < n) × IsDistance z × IsLine line
+    Fits d (Step.Load to at width line) = (to < n) × (at < n) × IsLine line
+    Fits d (Step.Store at from width) = (at < n) × (from < n)
     Fits d x = ⊥
 
     pub AllFit : (levels : ℕ) → Steps → Type 0
@@ -65,13 +71,13 @@ one_argument k kind n (a ∷ b ∷ args) e h = absurd (true≢false (ap (λ xs. 
     has_two (x ∷ []) = false
     has_two (x ∷ y ∷ xs) = true
 
-arguments_fit : (n : ℕ) (k : Kinds) (which : LibCall) (args : List ℕ) → is_of_numbers which ≡ true → ArePassed k args (signature_of which).params → All (λ a. a < n) args → HasArguments n which args
+arguments_fit : (n : ℕ) (k : Kinds) (which : LibCall) (args : List ℕ) → is_of_environment which ≡ true → ArePassed k args (signature_of which).params → All (λ a. a < n) args → HasArguments n which args
 arguments_fit n k lib.Putchar args b e h = one_argument k _ n args e h
 arguments_fit n k lib.Exit args b e h = one_argument k _ n args e h
 arguments_fit n k lib.Getchar args b e h = tt
-arguments_fit n k lib.Malloc args b e h = absurd (true≢false (sym b))
+arguments_fit n k lib.Malloc args b e h = one_argument k _ n args e h
 arguments_fit n k lib.Calloc args b e h = absurd (true≢false (sym b))
-arguments_fit n k lib.Free args b e h = absurd (true≢false (sym b))
+arguments_fit n k lib.Free args b e h = one_argument k _ n args e h
 arguments_fit n k lib.Memcpy args b e h = absurd (true≢false (sym b))
 arguments_fit n k lib.Memset args b e h = absurd (true≢false (sym b))
 
@@ -93,7 +99,7 @@ module _ (p : Program) (f : Function) (signatures : List Signature) (result : Ki
     step_fits (Step.Divide to o x y line) d k l es b r h = (r.0, r.1, r.2)
     step_fits (Step.PtrSame to x y) d k l es b r h = r
     step_fits (Step.Call to c args) d k l es b r h = r
-    step_fits (Step.Library to which args line x y) d k l es b r h = (r.0, arguments_fit f.values k which args b h.0 r.1)
+    step_fits (Step.Library to which args line x y) d k l es b r h = (r.0, arguments_fit f.values k which args b h.0 r.1, r.3)
     step_fits (Step.If cond xs ys) d k l es b r h =
         (r.0, steps_fit xs d k l es (first_is (are_built_steps xs) (are_built_steps ys) b) r.1 h.1, steps_fit ys d k l es (second_is (are_built_steps xs) (are_built_steps ys) b) r.2 h.2)
     step_fits (Step.Block body) d k l es b r h = steps_fit body (suc d) k l (l ∷ es) b r h
@@ -102,15 +108,15 @@ module _ (p : Program) (f : Function) (signatures : List Signature) (result : Ki
     step_fits (Step.Return from) d k l es b r h = r
     step_fits (Step.LineMark line) d k l es b r h = r
     step_fits (Step.Named to o) d k l es b r h = absurd (true≢false (sym b))
-    step_fits (Step.Move site to from by scale down line) d k l es b r h = absurd (true≢false (sym b))
-    step_fits (Step.MoveBy site to from z line) d k l es b r h = absurd (true≢false (sym b))
-    step_fits (Step.Load to at width line) d k l es b r h = absurd (true≢false (sym b))
-    step_fits (Step.Store at from width) d k l es b r h = absurd (true≢false (sym b))
+    step_fits (Step.Move site to from by scale down line) d k l es b r h = r
+    step_fits (Step.MoveBy site to from z line) d k l es b r h = r
+    step_fits (Step.Load to at width line) d k l es b r h = r
+    step_fits (Step.Store at from width) d k l es b r h = r
     step_fits (Step.Clear o) d k l es b r h = absurd (true≢false (sym b))
     step_fits (Step.Init o offset from width) d k l es b r h = absurd (true≢false (sym b))
     step_fits (Step.CopyBytes x y from to m line) d k l es b r h = absurd (true≢false (sym b))
-    step_fits (Step.PtrOrder to o x y) d k l es b r h = absurd (true≢false (sym b))
-    step_fits (Step.PtrDiff to x y size) d k l es b r h = absurd (true≢false (sym b))
+    step_fits (Step.PtrOrder to o x y) d k l es b r h = r
+    step_fits (Step.PtrDiff to x y size) d k l es b r h = r
 
     pub steps_fit : (xs : Steps) (d : ℕ) (k l : Kinds) (es : List Kinds) → are_built_steps xs ≡ true → AreInRange p f d xs → AreKinds signatures result xs k l es → AllFit p f.values d xs
     steps_fit Steps.stop d k l es b r h = tt
@@ -125,20 +131,20 @@ pub record FunctionFits (p : Program) (f : Function) : Type 0 where
   pub blocks : AreSmall f.blocks
   pub body : AllFit p f.values 0 f.body
 
-pub function_is : (p : Program) (all : List Signature) (fs : List Function) (ss : List Signature) (i : ℕ) (f : Function) → AreFunctions p all fs ss → slice_get fs i ≡ Some f → (s : Signature) × IsFunction p all f s
-function_is p all [] ss i f h e = absurd (none-some f e)
-function_is p all (x ∷ fs) [] i f h e = absurd h
-function_is p all (x ∷ fs) (s ∷ ss) zero f h e = (s, subst (λ y. IsFunction p all y s) (same_Some x f e) h.0)
-function_is p all (x ∷ fs) (s ∷ ss) (suc i) f h e = function_is p all fs ss i f h.1 e
+pub signature_is : (p : Program) (all : List Signature) (fs : List Function) (ss : List Signature) (i : ℕ) (f : Function) → AreFunctions p all fs ss → slice_get fs i ≡ Some f → (s : Signature) × (slice_get ss i ≡ Some s) × IsFunction p all f s
+signature_is p all [] ss i f h e = absurd (none-some f e)
+signature_is p all (x ∷ fs) [] i f h e = absurd h
+signature_is p all (x ∷ fs) (s ∷ ss) zero f h e = (s, refl, subst (λ y. IsFunction p all y s) (same_Some x f e) h.0)
+signature_is p all (x ∷ fs) (s ∷ ss) (suc i) f h e = signature_is p all fs ss i f h.1 e
 
 pub functions_fit : (p : Program) → Formed p → IsBuilt p → (i : ℕ) (f : Function) → slice_get p.functions i ≡ Some f → FunctionFits p f
 functions_fit p formed built i f found =
-    let is = function_is p formed.signatures p.functions formed.signatures i f formed.functions found in
+    let is = signature_is p formed.signatures p.functions formed.signatures i f formed.functions found in
     let b = all_get IsBuiltFunction p.functions i f built.functions found in
     record {
-      line = is.1.line.0;
+      line = is.2.line.0;
       blocks = b.blocks;
-      body = steps_fit p f formed.signatures is.0.result f.body 0 (first_kinds is.0) is.1.last [] b.body is.1.ranges is.1.kinds;
+      body = steps_fit p f formed.signatures is.0.result f.body 0 (first_kinds is.0) is.2.last [] b.body is.2.ranges is.2.kinds;
     }
   where
     all_get : {X : Type 0} (P : X → Type 0) (xs : List X) (k : ℕ) (x : X) → All P xs → slice_get xs k ≡ Some x → P x
@@ -166,10 +172,10 @@ is_built_is p e =
     (record { globals = none_is p.globals (first_is (is_none p.globals) (are_built_functions p.functions) e); functions = fs.0 }, fs.1)
 
 -- the code of functions without block locals is the same for slots of every size
-pub frameless : FramesAreAlike → (g : ℕ) → 1 ≤ g → g ≤ 24 → (fs : List Function) → All (λ f. f.blocks ≡ []) fs → map frameless_code fs ≡ map (function_code g) fs
+pub frameless : FramesAreAlike → (g : ℕ) → 1 ≤ g → g ≤ 24 → (fs : List Function) → All (λ f. f.blocks ≡ []) fs → map (frameless_code g) fs ≡ map (function_code g) fs
 frameless frames g big small [] h = refl
 frameless frames g big small (f ∷ fs) h =
-    ap (λ n. record { values = f.values + TEMPORARIES; params = f.params; frame = n; line = f.line; body = code f.values f.body } ∷ map frameless_code fs) (sym (ap (λ bs. frame_size (exponents (layout g bs))) (All-head (λ (h : Function). h.blocks ≡ []) f fs h) ∙ ap (λ plan. frame_size (exponents plan)) (no_plan (layout g []) (frames g 0 [] big small (omega arith) tt).count)))
+    ap (λ n. record { values = f.values + TEMPORARIES; params = f.params; frame = n; line = f.line; body = code g f.values f.body } ∷ map (frameless_code g) fs) (sym (ap (λ bs. frame_size (exponents (layout g bs))) (All-head (λ (h : Function). h.blocks ≡ []) f fs h) ∙ ap (λ plan. frame_size (exponents plan)) (no_plan (layout g []) (frames g 0 [] big small (omega arith) tt).count)))
     ∙ ap (λ z. function_code g f ∷ z) (frameless frames g big small fs (All-tail (λ (h : Function). h.blocks ≡ []) f fs h))
   where
     no_plan : (plan : List Placed) → length plan ≡ 0 → plan ≡ []

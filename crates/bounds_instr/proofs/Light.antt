@@ -1,8 +1,12 @@
 -- Flat code weighs at most what its mid code weighs, and the start code: each step's items are no heavier than the step.
-use Rattle.std.proofs.Common.{◌≡◌, ℕ, zero, suc, ◌+◌, ◌*◌, ◌≤◌, List, [], ◌∷◌, map, Option, Some, None, refl, sym, ap, ◌∙◌, arith}
+use Rattle.std.proofs.Common.{◌≡◌, ℕ, zero, suc, ◌+◌, ◌*◌, ◌≤◌, List, [], ◌∷◌, map, Option, Some, None, slice_get, refl, sym, ap, ◌∙◌, arith}
+use Rattle.bb_words.specs.declared.steps.OrderOp.{OrderOp}
+use Rattle.bb_words.specs.declared.steps.OrderOp.TheVariants as order
+use Rattle.bb_words.specs.declared.steps.Width.TheVariants as width
 use Rattle.c_typed.specs.declared.typed_expr.LibCall.{LibCall}
 use Rattle.c_typed.specs.declared.typed_expr.LibCall.TheVariants as lib
 use Rattle.mid_code.specs.Code.{Step, Steps, Function, Program}
+use Rattle.mid_code.specs.Formed.{Formed}
 use Rattle.mid_code.specs.Weight as mid
 use Rattle.flat_code.specs.Code.{FStep, FSteps, none, more}
 use Rattle.flat_code.specs.Recognized.{Sequence, sequence_at, further}
@@ -11,7 +15,9 @@ use Rattle.flat_verify.specs.Items.{Item, Items, item_or, item_of, items_from, i
 use Rattle.flat_verify.specs.Items.Items.{end, next}
 use Rattle.flat_verify.specs.Laws.{PlainItemsAreRead}
 use Rattle.bounds_instr.specs.Code.{code, function_code, instrumented}
-use Rattle.bounds_instr.proofs.Accepted.{joined, library_items, step_items, items, steps_of_items, plainly}
+use Rattle.bounds_instr.specs.Built.{IsBuilt}
+use Rattle.bounds_instr.proofs.Fits.{AllFit, FunctionFits, functions_fit}
+use Rattle.bounds_instr.proofs.Accepted.{joined, library_items, order_items, step_items, items, steps_of_items, plainly}
 
 -- ---- What items weigh, in instructions
 
@@ -69,17 +75,23 @@ module _ (g : ℕ) where
 
   -- ---- No step's items are heavier than the step
 
-  library_light : (which : LibCall) (to : ℕ) (args : List ℕ) → 4 * sizes (library_items which to args) ≤ 204
-  library_light lib.Putchar to args = omega arith
-  library_light lib.Getchar to args = omega arith
-  library_light lib.Exit to args = omega arith
-  library_light lib.Malloc to args = omega arith
-  library_light lib.Calloc to args = omega arith
-  library_light lib.Free to args = omega arith
-  library_light lib.Memcpy to args = omega arith
-  library_light lib.Memset to args = omega arith
+  library_light : (t : ℕ) (which : LibCall) (to line : ℕ) (args : List ℕ) → 4 * sizes (library_items t which to line args) ≤ 204
+  library_light t lib.Putchar to line args = omega arith
+  library_light t lib.Getchar to line args = omega arith
+  library_light t lib.Exit to line args = omega arith
+  library_light t lib.Malloc to line args = omega arith
+  library_light t lib.Calloc to line args = omega arith
+  library_light t lib.Free to line args = omega arith
+  library_light t lib.Memcpy to line args = omega arith
+  library_light t lib.Memset to line args = omega arith
 
   module _ (n : ℕ) where
+    order_light : (to : ℕ) (o : OrderOp) (a b : ℕ) → 4 * sizes (order_items n to o a b) ≤ 60
+    order_light to order.Below a b = omega arith
+    order_light to order.AtMost a b = omega arith
+    order_light to order.Above a b = omega arith
+    order_light to order.AtLeast a b = omega arith
+
     mutual
       step_light : (x : Step) → 4 * sizes (step_items n x) ≤ mid.weight_of x
       step_light (Step.Number to value) = omega arith
@@ -89,7 +101,7 @@ module _ (g : ℕ) where
       step_light (Step.Divide to o a b line) = omega arith
       step_light (Step.PtrSame to a b) = omega arith
       step_light (Step.Call to f args) = omega arith
-      step_light (Step.Library to which args line a b) = library_light which to args
+      step_light (Step.Library to which args line a b) = library_light n which to line args
       step_light (Step.If cond xs ys) = omega (arith, light xs, light ys)
       step_light (Step.Block body) = omega (arith, light body)
       step_light (Step.Loop body) = omega (arith, light body)
@@ -99,12 +111,16 @@ module _ (g : ℕ) where
       step_light (Step.Named to o) = omega arith
       step_light (Step.Move site to from by scale down line) = omega arith
       step_light (Step.MoveBy site to from z line) = omega arith
-      step_light (Step.Load to at width line) = omega arith
+      step_light (Step.Load to at width.Byte line) = omega arith
+      step_light (Step.Load to at width.Half line) = omega arith
+      step_light (Step.Load to at width.SignedHalf line) = omega arith
+      step_light (Step.Load to at width.Word line) = omega arith
+      step_light (Step.Load to at width.Pointer line) = omega arith
       step_light (Step.Store at from width) = omega arith
       step_light (Step.Clear o) = omega arith
       step_light (Step.Init o offset from width) = omega arith
       step_light (Step.CopyBytes a b from to m line) = omega arith
-      step_light (Step.PtrOrder to o a b) = omega arith
+      step_light (Step.PtrOrder to o a b) = order_light to o a b
       step_light (Step.PtrDiff to a b size) = omega arith
 
       light : (xs : Steps) → 4 * sizes (items n xs) ≤ mid.weight_of_all xs
@@ -114,14 +130,14 @@ module _ (g : ℕ) where
 -- ---- Functions and programs
 
 module _ (read : PlainItemsAreRead) (g : ℕ) where
-  code_light : (n : ℕ) (xs : Steps) → 4 * steps_size g 0 (code n xs) ≤ mid.weight_of_all xs
-  code_light n xs =
-      let same = ap (items_of g) (sym (steps_of_items g n xs)) ∙ read g (items n xs) (plainly n xs) in
-      omega (arith, light g n xs, sizes_are g 0 (code n xs), ap (λ is. sizes g is) same)
+  code_light : (p : Program) (n : ℕ) (xs : Steps) → AllFit p n 0 xs → 4 * steps_size g 0 (code g n xs) ≤ mid.weight_of_all xs
+  code_light p n xs fit =
+      let same = ap (items_of g) (sym (steps_of_items g n xs)) ∙ read g (items n xs) (plainly p n xs 0 fit) in
+      omega (arith, light g n xs, sizes_are g 0 (code g n xs), ap (λ is. sizes g is) same)
 
-  functions_light : (fs : List Function) → 4 * functions_size g (map (function_code g) fs) ≤ mid.weight_of_functions fs
-  functions_light [] = omega arith
-  functions_light (f ∷ fs) = omega (arith, code_light f.values f.body, functions_light fs)
+  functions_light : (p : Program) (fs : List Function) → ((i : ℕ) (f : Function) → slice_get fs i ≡ Some f → FunctionFits p f) → 4 * functions_size g (map (function_code g) fs) ≤ mid.weight_of_functions fs
+  functions_light p [] fit = omega arith
+  functions_light p (f ∷ fs) fit = omega (arith, code_light p f.values f.body (fit 0 f refl).body, functions_light p fs (λ i h e. fit (suc i) h e))
 
-  pub program_light : (p : Program) → weight g (instrumented g p) ≤ mid.weight p + 28672
-  program_light p = omega (arith, functions_light p.functions)
+  pub program_light : (p : Program) → Formed p → IsBuilt p → weight g (instrumented g p) ≤ mid.weight p + 28672
+  program_light p formed built = omega (arith, functions_light p p.functions (functions_fit p formed built))

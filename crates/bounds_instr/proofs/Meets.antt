@@ -3,6 +3,7 @@ use Rattle.std.specs.Prelude.{◌==◌, if◌then◌else◌}
 use Rattle.std.proofs.Common.{◌≡◌, ◌≢◌, ℕ, suc, ◌+◌, ◌-◌, ◌*◌, ◌<◌, ◌≤◌, Bool, true, false, List, [], ◌∷◌, ◌++◌, All, refl, sym, ◌∙◌, subst, arith}
 use Rattle.bb_words.specs.Answers.{Goes, Ends, and_then}
 use Rattle.source_meaning.specs.declared.values.Value.{Value}
+use Rattle.source_meaning.specs.declared.values.Value.TheVariants.{Num}
 use Rattle.source_meaning.specs.declared.values.Ending.TheVariants.{Exited, Reported, Trapped, Outside, Cut}
 use Rattle.source_meaning.specs.Objects.{Object}
 use Rattle.source_meaning.specs.Worlds.{World, Does, Line, noted}
@@ -16,7 +17,7 @@ use Rattle.injection.specs.Words.{word_of_value}
 use Rattle.injection.specs.Memory.{IsValue, SameValues}
 use Rattle.injection.specs.Trail.{SafeSites}
 use Rattle.injection.specs.Worlds.{Accounted, Stays, Since, Injection}
-use Rattle.injection.specs.Laws.{SaysKeep, TrailsAppend}
+use Rattle.injection.specs.Laws.{SaysKeep, TrailsAppend, GivesAlike}
 use Rattle.bounds_instr.specs.Keeps.{Stops, IsCut, Begins}
 use Rattle.bounds_instr.proofs.Follow.{Follows, Grows, grows_on, follows_goes}
 
@@ -114,7 +115,7 @@ same_put g n os values words t w le h = record {
 }
 
 -- what is told now came by the time of mid code
-told_by : (v : Point) (u : FPoint) (t s : ℕ) (what : Tell) → v.time ≤ t → u.world.time + s ≤ v.time → AllBy v.time u.world.told → AllBy t (u.world.told ++ record { time = u.world.time; what = what } ∷ [])
+pub told_by : (v : Point) (u : FPoint) (t s : ℕ) (what : Tell) → v.time ≤ t → u.world.time + s ≤ v.time → AllBy v.time u.world.told → AllBy t (u.world.told ++ record { time = u.world.time; what = what } ∷ [])
 told_by v u t s what le paid by =
     by_append t u.world.told (record { time = u.world.time; what = what } ∷ []) (by_later v.time t u.world.told le by) (let q : u.world.time ≤ t = omega (arith, le, paid) in q, tt)
 
@@ -144,6 +145,10 @@ module _ (g : ℕ) (safe : SafeSites) (fr : Frame) where
     by = h.by;
   }
 
+  -- mid code is charged for a step, and the flat run has that time left
+  pub gained : (a s s' : ℕ) (v : Point) (u : FPoint) → s' ≤ a + s → Meets g safe fr s v u → Meets g safe fr s' (mid.spend a v) u
+  gained a s s' v u le h = record { agrees = h.agrees; values = h.values; paid = omega (arith, h.paid); by = by_later v.time (v.time + a) u.world.told (omega arith) h.by }
+
   -- an operation on the world that leaves it as it is
   pub unchanged : (s : ℕ) (v : Point) (u : FPoint) → Meets g safe fr s v u → Meets g safe fr s (at_world v.world v) u
   unchanged s v u h = record {
@@ -169,6 +174,10 @@ module _ (g : ℕ) (safe : SafeSites) (fr : Frame) where
     paid = h.paid;
     by = h.by;
   }
+
+  -- a step of the flat run sets a temporary
+  pub sets_temporary : (b s s' t w : ℕ) (v : Point) (u : FPoint) → b + s' ≤ s → fr.values ≤ t → Meets g safe fr s v u → Meets g safe fr s' v (put t w (point u.words (flat.spend b u.world)))
+  sets_temporary b s s' t w v u le at h = puts s' t w v (point u.words (flat.spend b u.world)) at (flat_spent b s s' v u le h)
 
   -- ---- What is told and taken
 
@@ -330,3 +339,12 @@ module _ (g : ℕ) (safe : SafeSites) (fr : Frame) (d : ℕ) where
       of (Ends (Reported kind line) w) q = absurd q
       of (Ends (Trapped kind) w) q = absurd q
       of (Ends Cut w) q = absurd q
+
+-- a number is given, and its word
+pub number_reply : (g n word : ℕ) (r : Does Value) (w : World) → word ≡ n → n < 4294967296 → GivesAlike w (Num n) r → Replies g w word r
+number_reply g n word (Goes x y) w e lt h = subst (λ z. (y ≡ w) × IsValue g w.objects z × (word ≡ word_of_value w.objects z)) (sym h.1) (h.0, lt, e)
+number_reply g n word (Ends (Outside cause) y) w e lt h = h
+number_reply g n word (Ends (Exited k) y) w e lt h = absurd h
+number_reply g n word (Ends (Reported kind line) y) w e lt h = absurd h
+number_reply g n word (Ends (Trapped kind) y) w e lt h = absurd h
+number_reply g n word (Ends Cut y) w e lt h = absurd h

@@ -1,6 +1,6 @@
 -- The steps of mid code, and the flat code that follows them.
 use Rattle.std.specs.Prelude.{◌==◌, not, ◌%◌, if◌then◌else◌, None}
-use Rattle.std.proofs.Common.{◌≡◌, ℕ, zero, suc, ◌+◌, ◌^◌, ◌<◌, Bool, true, false, List, [], ◌∷◌, ◌++◌, map, All, refl, sym, ap, ◌∙◌, subst, arith}
+use Rattle.std.proofs.Common.{◌≡◌, ℕ, zero, suc, ◌+◌, ◌^◌, ◌<◌, ◌≤◌, Bool, true, false, List, [], ◌∷◌, ◌++◌, map, All, refl, sym, ap, ◌∙◌, subst, arith}
 use Rattle.std.proofs.lemmas.List.Elements.{All-nil, All-cons, All-head, All-tail}
 use Rattle.bb_words.specs.Answers.{Goes, Ends, and_then, either}
 use Rattle.bb_words.specs.Steps.{flag, arith as calculated, divided}
@@ -9,6 +9,8 @@ use Rattle.bb_words.specs.declared.steps.ArithOp.{ArithOp}
 use Rattle.bb_words.specs.declared.steps.ArithOp.TheVariants as op
 use Rattle.bb_words.specs.declared.steps.DivideOp.{DivideOp}
 use Rattle.bb_words.specs.declared.steps.DivideOp.TheVariants as divide
+use Rattle.bb_words.specs.declared.steps.Width.{Width}
+use Rattle.bb_words.specs.declared.steps.Width.TheVariants as width
 use Rattle.c_typed.specs.declared.typed_expr.LibCall.{LibCall}
 use Rattle.c_typed.specs.declared.typed_expr.LibCall.TheVariants as lib
 use Rattle.source_meaning.specs.declared.values.Pointer.TheVariants.{Null}
@@ -16,30 +18,37 @@ use Rattle.source_meaning.specs.declared.values.Value.{Value}
 use Rattle.source_meaning.specs.declared.values.Value.TheVariants.{Num, Ptr}
 use Rattle.source_meaning.specs.declared.values.Ending.TheVariants.{Exited, Reported, Trapped, Outside, Cut}
 use Rattle.source_meaning.specs.Objects.{Object}
-use Rattle.source_meaning.specs.Worlds.{World, Does, Line, noted, with_number}
+use Rattle.source_meaning.specs.Worlds.{World, Does, Line, noted, with_number, with_pointer}
+use Rattle.source_meaning.specs.Accesses.{load}
 use Rattle.source_meaning.specs.Comparisons.{same, truth}
-use Rattle.source_meaning.specs.Accounts.{put as write_out, get_from, library}
+use Rattle.source_meaning.specs.Accounts.{put as write_out, get_from, free, library}
 use Rattle.source_meaning.specs.Numbers.{unless_zero}
 use Rattle.mid_code.specs.Code.{Step, Steps, Program}
 use Rattle.mid_code.specs.Times.{charge}
-use Rattle.mid_code.specs.Meaning.{Came, Point, Goings, Way, On, Out, Back, set, at_world, done_at, doing, setting, on_words, site_in, Watch, Names, out_of_one, rounds, act, acts}
+use Rattle.mid_code.specs.Meaning.{Came, Point, Goings, Way, On, Out, Back, set, at_world, done_at, doing, setting, on_words, site_in, Watch, Names, distance_of, keeps, out_of_one, rounds, act, acts}
 use Rattle.mid_code.specs.Meaning as mid
 use Rattle.flat_code.specs.Code.{FStep, FSteps, none, more}
 use Rattle.flat_code.specs.Told.{Tell}
 use Rattle.flat_code.specs.World.{FWorld, FPoint, point, put, tell, with_word, choose, Ending, Run, onward, out_of, again}
 use Rattle.flat_code.specs.World as flat
+use Rattle.flat_code.specs.Accounts.{malloc}
 use Rattle.flat_code.specs.Time as time
 use Rattle.flat_code.specs.Run.{goes, ends, get, turns}
 use Rattle.flat_code.specs.Run as run
 use Rattle.injection.specs.Words.{word_of_value}
 use Rattle.injection.specs.Memory.{IsValue}
 use Rattle.injection.specs.Trail.{SafeSites}
-use Rattle.injection.specs.Laws.{SaysKeep, TrailsAppend, TruthIsOfWords, ComparisonsAreOfWords, GivesAlike}
+use Rattle.injection.specs.Laws.{SaysKeep, TrailsAppend, TruthIsOfWords, ComparisonsAreOfWords, StoresAreWrites, LoadsAreReads, GivesAlike}
+use Rattle.flat_code.specs.Laws.{LoadSequenceLoads, LoadSequenceStops}
 use Rattle.bounds_instr.specs.Keeps.{Begins}
 use Rattle.bounds_instr.specs.Code.{quotient, division, library_code, step_code, code}
 use Rattle.bounds_instr.proofs.Words.{calculated_fits, flag_fits}
 use Rattle.bounds_instr.proofs.Follow.{Follows, Grows, grows_on, grows_end, turns_grow, onward_grows, follows_then, follows_goes, to_equal, acts_append, only_acts}
-use Rattle.bounds_instr.proofs.Meets.{Frame, Meets, word_here, spent, earned, flat_spent, unchanged, sets, wrote, took, marked, stopped, cut, left, WaysAlike, Left, Gave, Enters, enters, Replies, setting_follows}
+use Rattle.bounds_instr.proofs.Meets.{Frame, Meets, word_here, gained, spent, earned, flat_spent, sets_temporary, unchanged, sets, wrote, took, marked, stopped, cut, left, WaysAlike, Left, Gave, Enters, enters, Replies, setting_follows}
+use Rattle.bounds_instr.proofs.Orders.{ordering_follows, subtraction_follows}
+use Rattle.bounds_instr.proofs.Accesses.{store_follows, load_follows, pointer_follows}
+use Rattle.bounds_instr.proofs.Moves.{MoveLaws, elements_follow, distance_follows}
+use Rattle.bounds_instr.proofs.Heap.{HeapLaws, malloc_follows, free_follows}
 use Rattle.bounds_instr.proofs.Fits.{HasArguments, Fits, AllFit}
 
 -- ---- Ways
@@ -93,8 +102,14 @@ pub record Laws : Type 0 where
   pub says : SaysKeep
   pub trails : TrailsAppend
   pub compares : ComparisonsAreOfWords
+  pub stores : StoresAreWrites
+  pub loads : LoadsAreReads
+  pub passes : LoadSequenceLoads
+  pub stops : LoadSequenceStops
+  pub moving : MoveLaws
+  pub heap : HeapLaws
 
-module _ (laws : Laws) (g : ℕ) (safe : SafeSites) (fr : Frame) where
+module _ (laws : Laws) (g : ℕ) (big : 2 ≤ g) (small : g ≤ 24) (safe : SafeSites) (checked : (site : ℕ) → safe site ≡ false) (fr : Frame) where
   words_are : (args : List ℕ) (v : Point) (u : FPoint) (s : ℕ) → All (λ a. a < fr.values) args → Meets g safe fr s v u → map u.words args ≡ map (word_of_value v.world.objects) (map v.values args)
   words_are [] v u s lt h = refl
   words_are (a ∷ args) v u s lt h = ap (λ z. z ∷ map u.words args) (h.values.each a (All-head (λ i. i < fr.values) a args lt)) ∙ ap (λ z. word_of_value v.world.objects (v.values a) ∷ z) (words_are args v u s (All-tail (λ i. i < fr.values) a args lt) h)
@@ -200,22 +215,22 @@ module _ (laws : Laws) (g : ℕ) (safe : SafeSites) (fr : Frame) where
 
     -- ---- Choices
 
-    either_follows : (d s : ℕ) (xs ys : Steps) (v : Point) (u : FPoint) (w : ℕ) → Meets g safe fr s v u → (Meets g safe fr s (at_world v.world v) u → Follows safe (Left g safe fr d s) (acts g watch deep m names xs (at_world v.world v)) (run.act_all g call m frame (code fr.values xs) u)) → (Meets g safe fr s (at_world v.world v) u → Follows safe (Left g safe fr d s) (acts g watch deep m names ys (at_world v.world v)) (run.act_all g call m frame (code fr.values ys) u)) → (r : Does Bool) → GivesAlike v.world (not (w == 0)) r → Follows safe (Left g safe fr d s) (and_then (done_at v r) (λ holds. either holds (acts g watch deep m names xs) (acts g watch deep m names ys))) (choose (w == 0) (run.act_all g call m frame (code fr.values ys)) (run.act_all g call m frame (code fr.values xs)) u)
+    either_follows : (d s : ℕ) (xs ys : Steps) (v : Point) (u : FPoint) (w : ℕ) → Meets g safe fr s v u → (Meets g safe fr s (at_world v.world v) u → Follows safe (Left g safe fr d s) (acts g watch deep m names xs (at_world v.world v)) (run.act_all g call m frame (code g fr.values xs) u)) → (Meets g safe fr s (at_world v.world v) u → Follows safe (Left g safe fr d s) (acts g watch deep m names ys (at_world v.world v)) (run.act_all g call m frame (code g fr.values ys) u)) → (r : Does Bool) → GivesAlike v.world (not (w == 0)) r → Follows safe (Left g safe fr d s) (and_then (done_at v r) (λ holds. either holds (acts g watch deep m names xs) (acts g watch deep m names ys))) (choose (w == 0) (run.act_all g call m frame (code g fr.values ys)) (run.act_all g call m frame (code g fr.values xs)) u)
     unfolding and_then
     either_follows d s xs ys v u w h when_true when_false (Goes b y) e =
-        subst (λ z. Follows safe (Left g safe fr d s) (either b (acts g watch deep m names xs) (acts g watch deep m names ys) (at_world z v)) (choose (w == 0) (run.act_all g call m frame (code fr.values ys)) (run.act_all g call m frame (code fr.values xs)) u)) (sym e.0)
-        (subst (λ z. Follows safe (Left g safe fr d s) (either z (acts g watch deep m names xs) (acts g watch deep m names ys) (at_world v.world v)) (choose (w == 0) (run.act_all g call m frame (code fr.values ys)) (run.act_all g call m frame (code fr.values xs)) u)) (sym e.1) (pick (w == 0)))
+        subst (λ z. Follows safe (Left g safe fr d s) (either b (acts g watch deep m names xs) (acts g watch deep m names ys) (at_world z v)) (choose (w == 0) (run.act_all g call m frame (code g fr.values ys)) (run.act_all g call m frame (code g fr.values xs)) u)) (sym e.0)
+        (subst (λ z. Follows safe (Left g safe fr d s) (either z (acts g watch deep m names xs) (acts g watch deep m names ys) (at_world v.world v)) (choose (w == 0) (run.act_all g call m frame (code g fr.values ys)) (run.act_all g call m frame (code g fr.values xs)) u)) (sym e.1) (pick (w == 0)))
       where
-        pick : (t : Bool) → Follows safe (Left g safe fr d s) (either (not t) (acts g watch deep m names xs) (acts g watch deep m names ys) (at_world v.world v)) (choose t (run.act_all g call m frame (code fr.values ys)) (run.act_all g call m frame (code fr.values xs)) u)
+        pick : (t : Bool) → Follows safe (Left g safe fr d s) (either (not t) (acts g watch deep m names xs) (acts g watch deep m names ys) (at_world v.world v)) (choose t (run.act_all g call m frame (code g fr.values ys)) (run.act_all g call m frame (code g fr.values xs)) u)
         pick true = when_false (unchanged g safe fr s v u h)
         pick false = when_true (unchanged g safe fr s v u h)
     either_follows d s xs ys v u w h when_true when_false (Ends (Outside cause) y) e =
-        subst (λ z. Follows safe (Left g safe fr d s) (Ends (Came (Outside cause)) (at_world z v)) (choose (w == 0) (run.act_all g call m frame (code fr.values ys)) (run.act_all g call m frame (code fr.values xs)) u)) (sym e)
-        (record { by = left g safe fr s (at_world v.world v) u (choose (w == 0) (run.act_all g call m frame (code fr.values ys)) (run.act_all g call m frame (code fr.values xs)) u) (either_grows (w == 0)) (unchanged g safe fr s v u h) })
+        subst (λ z. Follows safe (Left g safe fr d s) (Ends (Came (Outside cause)) (at_world z v)) (choose (w == 0) (run.act_all g call m frame (code g fr.values ys)) (run.act_all g call m frame (code g fr.values xs)) u)) (sym e)
+        (record { by = left g safe fr s (at_world v.world v) u (choose (w == 0) (run.act_all g call m frame (code g fr.values ys)) (run.act_all g call m frame (code g fr.values xs)) u) (either_grows (w == 0)) (unchanged g safe fr s v u h) })
       where
-        either_grows : (t : Bool) → Grows u (choose t (run.act_all g call m frame (code fr.values ys)) (run.act_all g call m frame (code fr.values xs)) u)
-        either_grows true = grows (code fr.values ys) u
-        either_grows false = grows (code fr.values xs) u
+        either_grows : (t : Bool) → Grows u (choose t (run.act_all g call m frame (code g fr.values ys)) (run.act_all g call m frame (code g fr.values xs)) u)
+        either_grows true = grows (code g fr.values ys) u
+        either_grows false = grows (code g fr.values xs) u
     either_follows d s xs ys v u w h when_true when_false (Ends (Exited n) y) e = absurd e
     either_follows d s xs ys v u w h when_true when_false (Ends (Reported kind line) y) e = absurd e
     either_follows d s xs ys v u w h when_true when_false (Ends (Trapped kind) y) e = absurd e
@@ -252,20 +267,39 @@ module _ (laws : Laws) (g : ℕ) (safe : SafeSites) (fr : Frame) where
         to_equal safe (Left g safe fr d s) _ _ _ (ap (λ z. ends (Ending.Exited z) u) e)
         (record { by = stopped g safe fr (Ending.Exited i) s (at_world v.world v) u (unchanged g safe fr s v u h) })
 
-    library_follows : (d s to line site_a site_b : ℕ) (which : LibCall) (args : List ℕ) (v : Point) (u : FPoint) → HasArguments fr.values which args → Meets g safe fr s v u → charge (Step.Library to which args line None None) ≡ 64 → Follows safe (Left g safe fr d s) (setting to (library g which site_a site_b line (map v.values args)) (mid.spend 64 v)) (run.act_all g call m frame (library_code which to args) u)
+    malloc_grows : (to a : ℕ) (u : FPoint) → Grows (point u.words (flat.spend 5 u.world)) (goes (malloc g to (u.words a) (point u.words (flat.spend 5 u.world))))
+    unfolding and_then
+    malloc_grows to a u = record { told = (grows (more (FStep.Env to 4 a a) none) u).told }
+
+    freeing : (d s to line a : ℕ) (v : Point) (u : FPoint) → a < fr.values → Meets g safe fr s v u → Follows safe (Left g safe fr d s) (setting to (with_pointer (v.values a) (free line)) (mid.spend 64 v)) (run.act_all g call m frame (library_code fr.values lib.Free to line (a ∷ [])) u)
+    unfolding and_then
+    freeing d s to line a v u la h =
+        let n = fr.values in
+        let u1 : FPoint = put n line (point u.words (flat.spend 3 u.world)) in
+        let h1 : Meets g safe fr (s + 8) (mid.spend 64 v) u1 = sets_temporary g safe fr 3 (s + 64) (s + 8) n line (mid.spend 64 v) u (omega arith) (omega arith) (gained g safe fr 64 s (s + 64) v u (omega arith) h) in
+        free_follows laws.heap g (omega (arith, big)) small safe fr d s to line (v.values a) (u1.words a) (u1.words n) (mid.spend 64 v) (point u1.words (flat.spend 5 u1.world)) (h1.values.each a la) (word_here u.words n line) (h1.values.formed a la)
+        (flat_spent g safe fr 5 (s + 8) (s + 3) (mid.spend 64 v) u1 (omega arith) h1)
+
+    library_follows : (d s to line site_a site_b : ℕ) (which : LibCall) (args : List ℕ) (v : Point) (u : FPoint) → HasArguments fr.values which args → Meets g safe fr s v u → charge (Step.Library to which args line None None) ≡ 64 → Follows safe (Left g safe fr d s) (setting to (library g which site_a site_b line (map v.values args)) (mid.spend 64 v)) (run.act_all g call m frame (library_code fr.values which to line args) u)
     library_follows d s to line sa sb lib.Putchar args v u f h e =
-        subst (λ z. Follows safe (Left g safe fr d s) (setting to (library g lib.Putchar sa sb line (map v.values z)) (mid.spend 64 v)) (run.act_all g call m frame (library_code lib.Putchar to z) u)) (sym f.1)
+        subst (λ z. Follows safe (Left g safe fr d s) (setting to (library g lib.Putchar sa sb line (map v.values z)) (mid.spend 64 v)) (run.act_all g call m frame (library_code fr.values lib.Putchar to line z) u)) (sym f.1)
         (one (FStep.Env to 3 f.0 f.0) d s _ u (putchar_follows d s to f.0 (v.values f.0) (mid.spend 64 v) (point u.words (flat.spend 5 u.world)) (h.values.each f.0 f.2) (spent g safe fr 64 5 s s v u (omega arith) h)))
     library_follows d s to line sa sb lib.Getchar args v u f h e =
         one (FStep.Env to 2 to to) d s _ u
         (to_equal safe (Left g safe fr d s) _ _ _ (ap (λ z. goes (get to z (point u.words (flat.spend 5 u.world)))) h.agrees.world.inputs)
         (getchar_follows d s to v.world.rest (mid.spend 64 v) (point u.words (flat.spend 5 u.world)) refl (spent g safe fr 64 5 s s v u (omega arith) h)))
     library_follows d s to line sa sb lib.Exit args v u f h e =
-        subst (λ z. Follows safe (Left g safe fr d s) (setting to (library g lib.Exit sa sb line (map v.values z)) (mid.spend 64 v)) (run.act_all g call m frame (library_code lib.Exit to z) u)) (sym f.1)
+        subst (λ z. Follows safe (Left g safe fr d s) (setting to (library g lib.Exit sa sb line (map v.values z)) (mid.spend 64 v)) (run.act_all g call m frame (library_code fr.values lib.Exit to line z) u)) (sym f.1)
         (one (FStep.Env to 1 f.0 f.0) d s _ u (exit_follows d s to f.0 (v.values f.0) (mid.spend 64 v) (point u.words (flat.spend 5 u.world)) (h.values.each f.0 f.2) (spent g safe fr 64 5 s s v u (omega arith) h)))
-    library_follows d s to line sa sb lib.Malloc args v u f h e = absurd f
+    library_follows d s to line sa sb lib.Malloc args v u f h e =
+        subst (λ z. Follows safe (Left g safe fr d s) (setting to (library g lib.Malloc sa sb line (map v.values z)) (mid.spend 64 v)) (run.act_all g call m frame (library_code fr.values lib.Malloc to line z) u)) (sym f.1)
+        (one (FStep.Env to 4 f.0 f.0) d s _ u
+        (malloc_follows laws.heap g (omega (arith, big)) small safe fr d s to (v.values f.0) (u.words f.0) (mid.spend 64 v) (point u.words (flat.spend 5 u.world)) (h.values.each f.0 f.2)
+        (malloc_grows to f.0 u) (spent g safe fr 64 5 s s v u (omega arith) h)))
     library_follows d s to line sa sb lib.Calloc args v u f h e = absurd f
-    library_follows d s to line sa sb lib.Free args v u f h e = absurd f
+    library_follows d s to line sa sb lib.Free args v u f h e =
+        subst (λ z. Follows safe (Left g safe fr d s) (setting to (library g lib.Free sa sb line (map v.values z)) (mid.spend 64 v)) (run.act_all g call m frame (library_code fr.values lib.Free to line z) u)) (sym f.1)
+        (freeing d s to line f.0 v u f.2 h)
     library_follows d s to line sa sb lib.Memcpy args v u f h e = absurd f
     library_follows d s to line sa sb lib.Memset args v u f h e = absurd f
 
@@ -279,11 +313,17 @@ module _ (laws : Laws) (g : ℕ) (safe : SafeSites) (fr : Frame) where
         (λ word t. grows_on t _ (put to word t) refl)
         (λ x w word t l. follows_goes safe (Left g safe fr d s) On (set to x w) flat.Way.On (put to word t) (record { ways = tt; meets = sets g safe fr s to x word w t l.formed l.word l.meets }))
 
+    -- what stands at a place is loaded unchecked
+    loading_follows : (to at : ℕ) (w : Width) (d s : ℕ) (v : Point) (u : FPoint) → at < fr.values → Meets g safe fr s v u → Follows safe (Left g safe fr d s) (setting to (with_pointer (v.values at) (load w)) (mid.spend 128 v)) (run.act_all g call m frame (more (FStep.Load to at w) none) u)
+    loading_follows to at w d s v u la h =
+        one (FStep.Load to at w) d s _ u
+        (load_follows g safe fr laws.says d laws.loads big s to at w (v.values at) (mid.spend 128 v) (point u.words (flat.spend 3 u.world)) (h.values.each at la) (spent g safe fr 128 3 s s v u (omega arith) h))
+
     ways_out : (d s : ℕ) (way : Way) (w : Point) (out : flat.Way) (t : FPoint) → Left g safe fr (suc d) s way w out t → Follows safe (Left g safe fr d s) (Goes (out_of_one way) w) (Goes (out_of out) t)
     ways_out d s way w out t l = follows_goes safe (Left g safe fr d s) (out_of_one way) w (out_of out) t (record { ways = out_alike g d w.world.objects way out l.ways; meets = l.meets })
 
     mutual
-      pub step_follows : (x : Step) (d s : ℕ) (v : Point) (u : FPoint) → Fits p fr.values d x → Meets g safe fr s v u → Follows safe (Left g safe fr d s) (act g watch deep m names x (mid.spend (charge x) v)) (run.act_all g call m frame (step_code fr.values x) u)
+      pub step_follows : (x : Step) (d s : ℕ) (v : Point) (u : FPoint) → Fits p fr.values d x → Meets g safe fr s v u → Follows safe (Left g safe fr d s) (act g watch deep m names x (mid.spend (charge x) v)) (run.act_all g call m frame (step_code g fr.values x) u)
       step_follows (Step.Number to value) d s v u f h =
           set_at_once (FStep.Number to value) d s to (Num (value % 2 ^ 32)) value (mid.spend 8 v) u refl (omega arith) (let q : value ≡ value % 2 ^ 32 = omega (arith, f.1) in q) (spent g safe fr 8 3 s s v u (omega arith) h)
       step_follows (Step.NullPtr to) d s v u f h =
@@ -305,29 +345,29 @@ module _ (laws : Laws) (g : ℕ) (safe : SafeSites) (fr : Frame) where
           one (FStep.Call to k args) d s _ u (call_follows d s to k args (mid.spend 128 v) (point u.words (flat.spend 48 u.world)) f.2 (spent g safe fr 128 48 s s v u (omega arith) h))
       step_follows (Step.Library to which args line a b) d s v u f h = called which f.1
         where
-          called : (which : LibCall) → HasArguments fr.values which args → Follows safe (Left g safe fr d s) (act g watch deep m names (Step.Library to which args line a b) (mid.spend (charge (Step.Library to which args line a b)) v)) (run.act_all g call m frame (library_code which to args) u)
+          called : (which : LibCall) → HasArguments fr.values which args → Follows safe (Left g safe fr d s) (act g watch deep m names (Step.Library to which args line a b) (mid.spend (charge (Step.Library to which args line a b)) v)) (run.act_all g call m frame (library_code fr.values which to line args) u)
           called lib.Putchar e = library_follows d s to line (site_in a) (site_in b) lib.Putchar args v u e h refl
           called lib.Getchar e = library_follows d s to line (site_in a) (site_in b) lib.Getchar args v u e h refl
           called lib.Exit e = library_follows d s to line (site_in a) (site_in b) lib.Exit args v u e h refl
-          called lib.Malloc e = absurd e
+          called lib.Malloc e = library_follows d s to line (site_in a) (site_in b) lib.Malloc args v u e h refl
           called lib.Calloc e = absurd e
-          called lib.Free e = absurd e
+          called lib.Free e = library_follows d s to line (site_in a) (site_in b) lib.Free args v u e h refl
           called lib.Memcpy e = absurd e
           called lib.Memset e = absurd e
       step_follows (Step.If cond xs ys) d s v u f h =
-          one (FStep.If cond (code fr.values xs) (code fr.values ys)) d s _ u
-          (to_equal safe (Left g safe fr d s) _ _ _ (ap (λ z. choose (z == 0) (run.act_all g call m frame (code fr.values ys)) (run.act_all g call m frame (code fr.values xs)) (point u.words (flat.spend 6 u.world))) (h.values.each cond f.0))
+          one (FStep.If cond (code g fr.values xs) (code g fr.values ys)) d s _ u
+          (to_equal safe (Left g safe fr d s) _ _ _ (ap (λ z. choose (z == 0) (run.act_all g call m frame (code g fr.values ys)) (run.act_all g call m frame (code g fr.values xs)) (point u.words (flat.spend 6 u.world))) (h.values.each cond f.0))
           (either_follows d s xs ys (mid.spend 16 v) (point u.words (flat.spend 6 u.world)) _ (spent g safe fr 16 6 s s v u (omega arith) h)
           (λ l. steps_follow xs d s _ _ f.1 l) (λ l. steps_follow ys d s _ _ f.2 l)
           (truth (v.values cond) v.world) (laws.truths g (v.values cond) v.world h.agrees.world.injects.out (h.values.formed cond f.0))))
       step_follows (Step.Block body) d s v u f h =
-          one (FStep.Block (code fr.values body)) d s _ u
-          (follows_then safe (Left g safe fr (suc d) s) (Left g safe fr d s) (acts g watch deep m names body (mid.spend 8 v)) (run.act_all g call m frame (code fr.values body) (point u.words (flat.spend 0 u.world))) (λ way. Goes (out_of_one way)) (λ way t. Goes (out_of way) t)
+          one (FStep.Block (code g fr.values body)) d s _ u
+          (follows_then safe (Left g safe fr (suc d) s) (Left g safe fr d s) (acts g watch deep m names body (mid.spend 8 v)) (run.act_all g call m frame (code g fr.values body) (point u.words (flat.spend 0 u.world))) (λ way. Goes (out_of_one way)) (λ way t. Goes (out_of way) t)
           (steps_follow body (suc d) s (mid.spend 8 v) (point u.words (flat.spend 0 u.world)) f (spent g safe fr 8 0 s s v u (omega arith) h))
           (λ way t. grows_on t _ t refl) (λ way w out t l. ways_out d s way w out t l))
       step_follows (Step.Loop body) d s v u f h =
-          one (FStep.Loop (code fr.values body)) d s _ u
-          (rounds_follow d (acts g watch deep m names body) (run.act_all g call m frame (code fr.values body)) (grows (code fr.values body)) (λ s1 v1 u1 l. steps_follow body (suc d) s1 v1 u1 f l) m s (mid.spend 8 v) (point u.words (flat.spend 0 u.world)) (spent g safe fr 8 0 s s v u (omega arith) h))
+          one (FStep.Loop (code g fr.values body)) d s _ u
+          (rounds_follow d (acts g watch deep m names body) (run.act_all g call m frame (code g fr.values body)) (grows (code g fr.values body)) (λ s1 v1 u1 l. steps_follow body (suc d) s1 v1 u1 f l) m s (mid.spend 8 v) (point u.words (flat.spend 0 u.world)) (spent g safe fr 8 0 s s v u (omega arith) h))
       step_follows (Step.Exit zero) d s v u f h = absurd (omega (arith, f.0))
       step_follows (Step.Exit (suc k)) d s v u f h =
           one (FStep.Exit (suc k)) d s _ u
@@ -339,21 +379,30 @@ module _ (laws : Laws) (g : ℕ) (safe : SafeSites) (fr : Frame) where
           one (FStep.LineMark line) d s _ u
           (follows_goes safe (Left g safe fr d s) On (record (mid.spend 4 v) { world = noted (Line line) v.world }) flat.Way.On (point u.words (tell (Tell.Line line) (flat.spend 1 u.world))) (record { ways = tt; meets = marked g safe fr laws.says laws.trails s line (mid.spend 4 v) (point u.words (flat.spend 1 u.world)) (spent g safe fr 4 1 s s v u (omega arith) h) }))
       step_follows (Step.Named to o) d s v u f h = absurd f
-      step_follows (Step.Move site to from by scale down line) d s v u f h = absurd f
-      step_follows (Step.MoveBy site to from z line) d s v u f h = absurd f
-      step_follows (Step.Load to at width line) d s v u f h = absurd f
-      step_follows (Step.Store at from width) d s v u f h = absurd f
+      step_follows (Step.Move site to from by scale down line) d s v u f h =
+          elements_follow laws.moving g big small safe checked fr call m frame d grows (keeps names (watch site) (v.values from) (distance_of scale down (v.values by)) v.world) s site to from by scale down line v u f.0 f.1 f.2 f.3 h
+      step_follows (Step.MoveBy site to from z line) d s v u f h =
+          distance_follows laws.moving g big small safe checked fr call m frame d grows (keeps names (watch site) (v.values from) z v.world) s site to from line z v u f.0 f.1 f.2 h
+      step_follows (Step.Load to at width.Byte line) d s v u f h = loading_follows to at width.Byte d s v u f.1 h
+      step_follows (Step.Load to at width.Half line) d s v u f h = loading_follows to at width.Half d s v u f.1 h
+      step_follows (Step.Load to at width.SignedHalf line) d s v u f h = loading_follows to at width.SignedHalf d s v u f.1 h
+      step_follows (Step.Load to at width.Word line) d s v u f h = loading_follows to at width.Word d s v u f.1 h
+      step_follows (Step.Load to at width.Pointer line) d s v u f h =
+          pointer_follows g safe fr laws.says d laws.loads big laws.passes laws.stops call m frame grows s to at line (v.values at) v u refl f.0 f.1 h
+      step_follows (Step.Store at from width) d s v u f h =
+          one (FStep.Store at from width) d s _ u
+          (store_follows g safe fr laws.says d laws.stores big s at from width (v.values at) (v.values from) (mid.spend 16 v) (point u.words (flat.spend 3 u.world)) (h.values.each at f.0) (h.values.each from f.1) (h.values.formed from f.1) (spent g safe fr 16 3 s s v u (omega arith) h))
       step_follows (Step.Clear o) d s v u f h = absurd f
       step_follows (Step.Init o offset from width) d s v u f h = absurd f
       step_follows (Step.CopyBytes a b from to n line) d s v u f h = absurd f
-      step_follows (Step.PtrOrder to o a b) d s v u f h = absurd f
-      step_follows (Step.PtrDiff to a b size) d s v u f h = absurd f
+      step_follows (Step.PtrOrder to o a b) d s v u f h = ordering_follows laws.compares g safe fr call m frame d s to o a b v u f.1 f.2 h
+      step_follows (Step.PtrDiff to a b size) d s v u f h = subtraction_follows laws.compares g safe fr call m frame d s to a b size v u f.1 f.2 f.3 f.4 h
 
-      pub steps_follow : (xs : Steps) (d s : ℕ) (v : Point) (u : FPoint) → AllFit p fr.values d xs → Meets g safe fr s v u → Follows safe (Left g safe fr d s) (acts g watch deep m names xs v) (run.act_all g call m frame (code fr.values xs) u)
+      pub steps_follow : (xs : Steps) (d s : ℕ) (v : Point) (u : FPoint) → AllFit p fr.values d xs → Meets g safe fr s v u → Follows safe (Left g safe fr d s) (acts g watch deep m names xs v) (run.act_all g call m frame (code g fr.values xs) u)
       steps_follow Steps.stop d s v u f h = follows_goes safe (Left g safe fr d s) On v flat.Way.On u (record { ways = tt; meets = h })
       steps_follow (Steps.step x xs) d s v u f h =
-          to_equal safe (Left g safe fr d s) _ _ _ (acts_append g call m frame (step_code fr.values x) (code fr.values xs) u)
-          (follows_then safe (Left g safe fr d s) (Left g safe fr d s) (act g watch deep m names x (mid.spend (charge x) v)) (run.act_all g call m frame (step_code fr.values x) u) (λ way. mid.after way (acts g watch deep m names xs)) (λ way t. onward way t (run.act_all g call m frame (code fr.values xs)))
+          to_equal safe (Left g safe fr d s) _ _ _ (acts_append g call m frame (step_code g fr.values x) (code g fr.values xs) u)
+          (follows_then safe (Left g safe fr d s) (Left g safe fr d s) (act g watch deep m names x (mid.spend (charge x) v)) (run.act_all g call m frame (step_code g fr.values x) u) (λ way. mid.after way (acts g watch deep m names xs)) (λ way t. onward way t (run.act_all g call m frame (code g fr.values xs)))
           (step_follows x d s v u f.0 h)
-          (onward_grows (run.act_all g call m frame (code fr.values xs)) (grows (code fr.values xs)))
-          (λ way w out t l. onward_follows d s xs (code fr.values xs) way w out t l.ways l.meets (λ k. steps_follow xs d s w t f.1 k)))
+          (onward_grows (run.act_all g call m frame (code g fr.values xs)) (grows (code g fr.values xs)))
+          (λ way w out t l. onward_follows d s xs (code g fr.values xs) way w out t l.ways l.meets (λ k. steps_follow xs d s w t f.1 k)))

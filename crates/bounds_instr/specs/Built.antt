@@ -1,23 +1,23 @@
--- Which programs are built: those of numbers, with no global objects.
+-- Which programs are built: those whose objects are all of the heap.
 use Rattle.std.specs.Prelude.{◌≡◌, Bool, true, false, ◌&&◌, List, [], ◌∷◌, All}
 use Rattle.c_typed.specs.declared.typed_expr.LibCall.{LibCall}
 use Rattle.c_typed.specs.declared.typed_expr.LibCall.TheVariants as lib
 use Rattle.mid_code.specs.Code.{Step, Steps, Function, Program}
 use Rattle.injection.specs.Laws.{AreSmall}
 
--- the functions of the library that work on numbers alone
-abbrev pub is_of_numbers : LibCall → Bool
-is_of_numbers lib.Putchar = true
-is_of_numbers lib.Getchar = true
-is_of_numbers lib.Exit = true
-is_of_numbers lib.Malloc = false
-is_of_numbers lib.Calloc = false
-is_of_numbers lib.Free = false
-is_of_numbers lib.Memcpy = false
-is_of_numbers lib.Memset = false
+-- the functions of the library that the environment does
+abbrev pub is_of_environment : LibCall → Bool
+is_of_environment lib.Putchar = true
+is_of_environment lib.Getchar = true
+is_of_environment lib.Exit = true
+is_of_environment lib.Malloc = true
+is_of_environment lib.Calloc = false
+is_of_environment lib.Free = true
+is_of_environment lib.Memcpy = false
+is_of_environment lib.Memset = false
 
 abbrev mutual
-  -- steps that neither move pointers nor touch memory
+  -- steps that name no object, and copy none
   pub is_built_step : Step → Bool
   is_built_step (Step.Number to value) = true
   is_built_step (Step.NullPtr to) = true
@@ -25,8 +25,14 @@ abbrev mutual
   is_built_step (Step.Arith to o a b) = true
   is_built_step (Step.Divide to o a b line) = true
   is_built_step (Step.PtrSame to a b) = true
+  is_built_step (Step.PtrOrder to o a b) = true
+  is_built_step (Step.PtrDiff to a b size) = true
+  is_built_step (Step.Move site to from by scale down line) = true
+  is_built_step (Step.MoveBy site to from d line) = true
+  is_built_step (Step.Load to at width line) = true
+  is_built_step (Step.Store at from width) = true
   is_built_step (Step.Call to f args) = true
-  is_built_step (Step.Library to which args line a b) = is_of_numbers which
+  is_built_step (Step.Library to which args line a b) = is_of_environment which
   is_built_step (Step.If cond xs ys) = are_built_steps xs && are_built_steps ys
   is_built_step (Step.Block body) = are_built_steps body
   is_built_step (Step.Loop body) = are_built_steps body

@@ -14,16 +14,16 @@ use Rattle.bounds_instr.specs.Code.{global_blocks, instrumented}
 use Rattle.bounds_instr.specs.Keeps.{Keeps}
 use Rattle.bounds_instr.specs.Laws.{beside}
 
--- For slots of every size this is the code of the program; it does what the program does, keeps the discipline,
--- and weighs no more than the program, the start code and the library.
-pub record Instruments (p : Program) (code : FCode) : Type 0 where
-  pub is : (g : ℕ) → 1 ≤ g → g ≤ 24 → code ≡ instrumented g p
-  pub keeps : (g : ℕ) → 1 ≤ g → g ≤ 24 → Keeps g (λ site. false) p code
-  pub disciplined : (g : ℕ) → 1 ≤ g → g ≤ 24 → IsDisciplined g (global_blocks g p) code
-  pub light : (g : ℕ) → 1 ≤ g → g ≤ 24 → flat.weight g code ≤ mid.weight p + beside
+-- This is the code of the program, for slots of 2 ^ g bytes; it does what the program does, keeps the discipline, and weighs
+-- no more than the program, the start code and the library.
+pub record Instruments (g : ℕ) (p : Program) (code : FCode) : Type 0 where
+  pub is : code ≡ instrumented g p
+  pub keeps : Keeps g (λ site. false) p code
+  pub disciplined : IsDisciplined g (global_blocks g p) code
+  pub light : flat.weight g code ≤ mid.weight p + beside
 
 -- Flat code comes just where the program is built, if memory is not wanting.
-abbrev pub IsInstrumented : Program → Result Flat InstrError → Type 0
-IsInstrumented p (Ok flat) = (is_built p ≡ true) × Instruments p (code_of flat)
-IsInstrumented p (Err NotBuilt) = is_built p ≡ false
-IsInstrumented p (Err Memory) = Unit {0}
+abbrev pub IsInstrumented : (g : ℕ) → Program → Result Flat InstrError → Type 0
+IsInstrumented g p (Ok flat) = (is_built p ≡ true) × Instruments g p (code_of flat)
+IsInstrumented g p (Err NotBuilt) = is_built p ≡ false
+IsInstrumented g p (Err Memory) = Unit {0}

@@ -6,17 +6,18 @@ ghost use Rattle.bounds_instr.specs.Built as built;
 use c_typed::typed_expr::LibCall;
 use mid_code::code::{Mid, MidFunction, MidStep};
 
-fn is_of_numbers(which: LibCall) -> bool
-    ensures { result ≡ built.is_of_numbers which }
+fn is_of_environment(which: LibCall) -> bool
+    ensures { result ≡ built.is_of_environment which }
 {
     match which {
-        LibCall::Putchar | LibCall::Getchar | LibCall::Exit => true,
-        LibCall::Malloc | LibCall::Calloc | LibCall::Free | LibCall::Memcpy | LibCall::Memset =>
-            false,
+        LibCall::Putchar | LibCall::Getchar | LibCall::Exit | LibCall::Malloc | LibCall::Free => {
+            true
+        }
+        LibCall::Calloc | LibCall::Memcpy | LibCall::Memset => false,
     }
 }
 
-/// Whether a step neither moves pointers nor touches memory, nor any step in it.
+/// Whether a step names no object and copies none, nor any step in it.
 #[tactic(auto, using(mid_code::proofs::Views::step_views))]
 #[cycle(steps)]
 fn is_built_step(x: &MidStep) -> bool
@@ -49,24 +50,18 @@ fn is_built_step(x: &MidStep) -> bool
             function: _,
             args: _,
         }
-        | MidStep::Exit { levels: _ }
-        | MidStep::Return { from: _ }
-        | MidStep::LineMark { line: _ } => true,
-        MidStep::Library {
+        | MidStep::PtrOrder {
             to: _,
-            which,
-            args: _,
-            line: _,
-            site_a: _,
-            site_b: _,
-        } => is_of_numbers(*which),
-        MidStep::If { cond: _, yes, no } => {
-            let first = are_built_steps(yes);
-            let second = are_built_steps(no);
-            first && second
+            op: _,
+            left: _,
+            right: _,
         }
-        MidStep::Block { body } | MidStep::Loop { body } => are_built_steps(body),
-        MidStep::Named { to: _, object: _ }
+        | MidStep::PtrDiff {
+            to: _,
+            left: _,
+            right: _,
+            size: _,
+        }
         | MidStep::Move {
             site: _,
             to: _,
@@ -94,6 +89,24 @@ fn is_built_step(x: &MidStep) -> bool
             from: _,
             width: _,
         }
+        | MidStep::Exit { levels: _ }
+        | MidStep::Return { from: _ }
+        | MidStep::LineMark { line: _ } => true,
+        MidStep::Library {
+            to: _,
+            which,
+            args: _,
+            line: _,
+            site_a: _,
+            site_b: _,
+        } => is_of_environment(*which),
+        MidStep::If { cond: _, yes, no } => {
+            let first = are_built_steps(yes);
+            let second = are_built_steps(no);
+            first && second
+        }
+        MidStep::Block { body } | MidStep::Loop { body } => are_built_steps(body),
+        MidStep::Named { to: _, object: _ }
         | MidStep::Clear { object: _ }
         | MidStep::Init {
             object: _,
@@ -108,18 +121,6 @@ fn is_built_step(x: &MidStep) -> bool
             to: _,
             length: _,
             line: _,
-        }
-        | MidStep::PtrOrder {
-            to: _,
-            op: _,
-            left: _,
-            right: _,
-        }
-        | MidStep::PtrDiff {
-            to: _,
-            left: _,
-            right: _,
-            size: _,
         } => false,
     }
 }

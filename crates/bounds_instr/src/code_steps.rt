@@ -1,27 +1,33 @@
 //! The flat code of steps.
-ghost use Rattle.std.specs.Prelude.{◌≡◌, OnOk};
+ghost use Rattle.std.specs.Prelude.{◌≡◌, ◌≤◌, OnOk};
 ghost use Rattle.flat_code.specs.Code.{◌+++◌};
 ghost use Rattle.flat_code.specs.CodeViews.{steps_of};
 ghost use Rattle.mid_code.specs.Views as mid;
 ghost use Rattle.bounds_instr.specs.Code as instr;
 
 use crate::emit::{Division, block, call, choice, put, put_division, put_library, repeat};
+use crate::pointers::{
+    Elements, loading, moving_by, moving_elements, ordering, put_all, subtraction,
+};
 use bb_words::steps::ArithOp;
 use bb_words::word::Word;
 use flat_code::code::FlatStep;
 use mid_code::code::MidStep;
 use std::alloc::{AllocError, Global};
 
-/// The flat code of a step, in a function with so many values, behind which the temporaries are.
+/// The flat code of a step, for slots of 2^g bytes, in a function with so many values, behind which the temporaries are.
 #[tactic(auto, using(crate::proofs::Emitted::coded))]
 #[cycle(code)]
 pub fn code_step(
     alloc: Global,
+    g: u8,
     values: u32,
     x: &MidStep,
     code: &mut Vec<FlatStep>,
 ) -> Result<(), AllocError>
-    ensures { OnOk result (steps_of code.new.items ≡ steps_of code.old.items +++ instr.step_code values (mid.step_of x.now)) }
+    requires least { 1 ≤ g }
+    requires most { g ≤ 24 }
+    ensures { OnOk result (steps_of code.new.items ≡ steps_of code.old.items +++ instr.step_code g values (mid.step_of x.now)) }
 {
     match x {
         MidStep::Number { to, value } => put(
@@ -94,58 +100,100 @@ pub fn code_step(
             to,
             which,
             args,
-            line: _,
+            line,
             site_a: _,
             site_b: _,
-        } => put_library(code, *which, *to, args.as_slice())?,
+        } => put_library(code, values, *which, *to, *line, args.as_slice())?,
         MidStep::If { cond, yes, no } => {
             let mut first = Vec::new(alloc);
-            code_steps(alloc, values, yes, &mut first)?;
+            code_steps(alloc, g, values, yes, &mut first)?;
             let mut second = Vec::new(alloc);
-            code_steps(alloc, values, no, &mut second)?;
+            code_steps(alloc, g, values, no, &mut second)?;
             put(code, choice(*cond, first, second))?;
         }
         MidStep::Block { body } => {
             let mut inner = Vec::new(alloc);
-            code_steps(alloc, values, body, &mut inner)?;
+            code_steps(alloc, g, values, body, &mut inner)?;
             put(code, block(inner))?;
         }
         MidStep::Loop { body } => {
             let mut inner = Vec::new(alloc);
-            code_steps(alloc, values, body, &mut inner)?;
+            code_steps(alloc, g, values, body, &mut inner)?;
             put(code, repeat(inner))?;
         }
         MidStep::Exit { levels } => put(code, FlatStep::Exit { levels: *levels })?,
         MidStep::Return { from } => put(code, FlatStep::Return { from: *from })?,
         MidStep::LineMark { line } => put(code, FlatStep::LineMark { line: *line })?,
+        MidStep::Move {
+            site: _,
+            to,
+            from,
+            by,
+            scale,
+            down,
+            line,
+        } => {
+            let steps = moving_elements(
+                alloc,
+                g,
+                values,
+                Elements {
+                    to: *to,
+                    from: *from,
+                    by: *by,
+                    scale: *scale,
+                    down: *down,
+                    line: *line,
+                },
+            )?;
+            put_all(code, steps)?;
+        }
+        MidStep::MoveBy {
+            site: _,
+            to,
+            from,
+            distance,
+            line,
+        } => {
+            let steps = moving_by(alloc, g, values, *to, *from, *distance, *line)?;
+            put_all(code, steps)?;
+        }
+        MidStep::Load {
+            to,
+            at,
+            width,
+            line,
+        } => {
+            let steps = loading(alloc, g, values, *to, *at, *width, *line)?;
+            put_all(code, steps)?;
+        }
+        MidStep::Store { at, from, width } => put(
+            code,
+            FlatStep::Store {
+                at: *at,
+                from: *from,
+                width: *width,
+            },
+        )?,
+        MidStep::PtrOrder {
+            to,
+            op,
+            left,
+            right,
+        } => {
+            let steps = ordering(alloc, values, *to, *op, *left, *right)?;
+            put_all(code, steps)?;
+        }
+        MidStep::PtrDiff {
+            to,
+            left,
+            right,
+            size,
+        } => {
+            let steps = subtraction(alloc, values, *to, *left, *right, *size)?;
+            put_all(code, steps)?;
+        }
         MidStep::Named { to: _, object: _ }
-        | MidStep::Move {
-            site: _,
-            to: _,
-            from: _,
-            by: _,
-            scale: _,
-            down: _,
-            line: _,
-        }
-        | MidStep::MoveBy {
-            site: _,
-            to: _,
-            from: _,
-            distance: _,
-            line: _,
-        }
-        | MidStep::Load {
-            to: _,
-            at: _,
-            width: _,
-            line: _,
-        }
-        | MidStep::Store {
-            at: _,
-            from: _,
-            width: _,
-        }
         | MidStep::Clear { object: _ }
         | MidStep::Init {
             object: _,
@@ -160,18 +208,6 @@ pub fn code_step(
             to: _,
             length: _,
             line: _,
-        }
-        | MidStep::PtrOrder {
-            to: _,
-            op: _,
-            left: _,
-            right: _,
-        }
-        | MidStep::PtrDiff {
-            to: _,
-            left: _,
-            right: _,
-            size: _,
         } => {}
     }
     Ok(())
@@ -181,14 +217,17 @@ pub fn code_step(
 #[cycle(code)]
 pub fn code_steps(
     alloc: Global,
+    g: u8,
     values: u32,
     xs: &[MidStep],
     code: &mut Vec<FlatStep>,
 ) -> Result<(), AllocError>
-    ensures { OnOk result (steps_of code.new.items ≡ steps_of code.old.items +++ instr.code values (mid.steps_of xs.now)) }
+    requires least { 1 ≤ g }
+    requires most { g ≤ 24 }
+    ensures { OnOk result (steps_of code.new.items ≡ steps_of code.old.items +++ instr.code g values (mid.steps_of xs.now)) }
 {
     for x in xs {
-        code_step(alloc, values, x, code)?;
+        code_step(alloc, g, values, x, code)?;
     }
     Ok(())
 }

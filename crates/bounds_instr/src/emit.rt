@@ -121,15 +121,48 @@ fn first_of(args: &[u32]) -> u32
     if args.len() == 0 { 0 } else { args[0] }
 }
 
+/// A block is given back; the value becomes 0.
+#[tactic(auto, using(crate::proofs::Emitted::emitted))]
+fn put_free(
+    code: &mut Vec<FlatStep>,
+    temporary: u32,
+    to: u32,
+    line: u32,
+    pointer: u32,
+) -> Result<(), AllocError>
+    ensures { OnOk result (steps_of code.new.items ≡ steps_of code.old.items +++ instr.freeing temporary to line pointer) }
+{
+    put(
+        code,
+        FlatStep::Number {
+            to: temporary,
+            value: Word(line),
+        },
+    )?;
+    put(
+        code,
+        FlatStep::Env {
+            to,
+            call: 5,
+            a: pointer,
+            b: temporary,
+        },
+    )?;
+    put(code, FlatStep::Number { to, value: Word(0) })?;
+    Ok(())
+}
+
 /// A call of the library that the environment does.
 #[tactic(auto, using(crate::proofs::Emitted::emitted))]
 pub fn put_library(
     code: &mut Vec<FlatStep>,
+    temporary: u32,
     which: LibCall,
     to: u32,
+    line: u32,
     args: &[u32],
 ) -> Result<(), AllocError>
-    ensures { OnOk result (steps_of code.new.items ≡ steps_of code.old.items +++ instr.library_code which to args.now) }
+    ensures { OnOk result (steps_of code.new.items ≡ steps_of code.old.items +++ instr.library_code temporary which to line args.now) }
 {
     let first = first_of(args);
     match which {
@@ -160,8 +193,16 @@ pub fn put_library(
                 b: first,
             },
         ),
-        LibCall::Malloc | LibCall::Calloc | LibCall::Free | LibCall::Memcpy | LibCall::Memset => Ok(
-            (),
+        LibCall::Malloc => put(
+            code,
+            FlatStep::Env {
+                to,
+                call: 4,
+                a: first,
+                b: first,
+            },
         ),
+        LibCall::Free => put_free(code, temporary, to, line, first),
+        LibCall::Calloc | LibCall::Memcpy | LibCall::Memset => Ok(()),
     }
 }

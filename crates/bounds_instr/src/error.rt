@@ -8,7 +8,7 @@ use thiserror::Error;
 /// The program has a form that is not built, or memory is wanting.
 #[derive(Debug, Drop, Error)]
 pub enum InstrError {
-    /// The program has a global object, a function with a block local, or a step that moves a pointer or touches memory.
+    /// The program has a global object, a function with a block local, or a step that copies or clears memory.
     #[error("the program has a form that is not built")]
     NotBuilt,
     /// There is not memory enough for the code.

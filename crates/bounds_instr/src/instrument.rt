@@ -1,5 +1,5 @@
 //! From mid code to flat code.
-ghost use Rattle.std.specs.Prelude.{◌≡◌, ◌+◌, IfOk, map};
+ghost use Rattle.std.specs.Prelude.{◌≡◌, ◌≤◌, ◌+◌, IfOk, map};
 ghost use Rattle.mid_code.specs.Formed.{Formed};
 ghost use Rattle.mid_code.specs.Views.{program_of};
 ghost use Rattle.mid_code.specs.Views as mid;
@@ -29,13 +29,15 @@ fn values_of(values: u32) -> Result<u32, AllocError>
     }
 }
 
-/// The flat code of a function without block locals.
-fn code_function(alloc: Global, f: &MidFunction) -> Result<FlatFunction, AllocError>
-    ensures { IfOk result (λ code. flat.function_of code ≡ instr.frameless_code (mid.function_of f.now)) }
+/// The flat code of a function without block locals, for slots of 2^g bytes.
+fn code_function(alloc: Global, g: u8, f: &MidFunction) -> Result<FlatFunction, AllocError>
+    requires least { 1 ≤ g }
+    requires most { g ≤ 24 }
+    ensures { IfOk result (λ code. flat.function_of code ≡ instr.frameless_code g (mid.function_of f.now)) }
 {
     let values = values_of(f.values)?;
     let mut body = Vec::new(alloc);
-    code_steps(alloc, f.values, &f.body, &mut body)?;
+    code_steps(alloc, g, f.values, &f.body, &mut body)?;
     Ok(FlatFunction {
         values,
         params: f.params,
@@ -48,23 +50,28 @@ fn code_function(alloc: Global, f: &MidFunction) -> Result<FlatFunction, AllocEr
 /// The flat code of all functions.
 fn code_functions(
     alloc: Global,
+    g: u8,
     functions: &[MidFunction],
 ) -> Result<List<FlatFunction>, AllocError>
-    ensures { IfOk result (λ code. map flat.function_of code ≡ map instr.frameless_code (map mid.function_of functions.now)) }
+    requires least { 1 ≤ g }
+    requires most { g ≤ 24 }
+    ensures { IfOk result (λ code. map flat.function_of code ≡ map (instr.frameless_code g) (map mid.function_of functions.now)) }
 {
     let mut code = List::new(alloc);
     for f in functions {
-        code.push(code_function(alloc, f)?)?;
+        code.push(code_function(alloc, g, f)?)?;
     }
     Ok(code)
 }
 
-/// The flat code of a program that is well formed: it does what the program does, for slots of every size, every input and
+/// The flat code of a program that is well formed, for slots of 2^g bytes: it does what the program does, for every input and
 /// every bound on turns and nested calls, within the program's time, it keeps the discipline, and it weighs no more than the
 /// program does, but for the start code and the library. Or the program has a form that is not built.
-pub fn instrument(alloc: Global, mid: &Mid) -> Result<Flat, InstrError>
-    requires { Formed (program_of mid.now) }
-    ensures { IsInstrumented (program_of mid.now) result }
+pub fn instrument(alloc: Global, mid: &Mid, g: u8) -> Result<Flat, InstrError>
+    requires formed { Formed (program_of mid.now) }
+    requires least { 2 ≤ g }
+    requires most { g ≤ 24 }
+    ensures { IsInstrumented g (program_of mid.now) result }
 {
     instrumented_keeps();
     instrumented_is_disciplined();
@@ -73,7 +80,7 @@ pub fn instrument(alloc: Global, mid: &Mid) -> Result<Flat, InstrError>
     if !is_built(mid) {
         return Err(InstrError::NotBuilt);
     }
-    let functions = code_functions(alloc, mid.functions.as_slice())?;
+    let functions = code_functions(alloc, g, mid.functions.as_slice())?;
     Ok(Flat {
         functions,
         main: mid.main,

@@ -7,6 +7,9 @@ pub fn instrumented_keeps()
 {
     flat_code::laws::steps_advance();
     flat_code::laws::programs_advance();
+    flat_code::laws::load_sequence_loads();
+    flat_code::laws::load_sequence_stops();
+    flat_code::laws::move_sequence_moves();
     injection::laws::accounts_compose();
     injection::laws::accounts_keep();
     injection::laws::accounts_grow();
@@ -14,6 +17,13 @@ pub fn instrumented_keeps()
     injection::laws::trails_append();
     injection::laws::comparisons_are_of_words();
     injection::laws::truth_is_of_words();
+    injection::laws::stores_are_writes();
+    injection::laws::loads_are_reads();
+    injection::laws::pointers_are_owned();
+    injection::laws::moves_are_moved();
+    injection::laws::ended_keeps();
+    injection::laws::allocations_are_of_blocks();
+    injection::laws::frees_are_of_blocks();
     injection::laws::places_keep();
     injection::laws::entries_keep();
     injection::laws::exits_keep();

@@ -1,7 +1,7 @@
 //! From mid code to flat code: objects become blocks of memory, values become words, and each pointer move is guarded.
 //!
 //! `specs/Code` has the flat code of a program as a function on trees, `specs/Built` says which programs are built so far,
-//! those of numbers, and `specs/Keeps` what it is for flat code to do what its mid code does. `laws` has the theorems about
+//! those whose objects are all of the heap, and `specs/Keeps` what it is for flat code to do what its mid code does. `laws` has the theorems about
 //! that function, and `instrument` makes the code.
 #![tactic(auto)]
 
@@ -11,3 +11,4 @@ pub mod emit;
 pub mod error;
 pub mod instrument;
 pub mod laws;
+mod pointers;

@@ -1,6 +1,6 @@
 -- What a rule reads leaves no more tokens than there were, and fewer where it took one; and what a token that was taken
 -- tells of the level.
-use Rattle.std.proofs.Common.{◌≡◌, ◌⊎◌, inl, inr, ℕ, suc, ◌≤◌, ◌<◌, nat_lt, length, arith, Bool, true, false, cond, ◌&&◌, List, [], ◌∷◌, Option, Some, None, Result, Ok, Err, refl, sym, ap, ◌∙◌}
+use Rattle.std.proofs.Common.{◌≡◌, ◌⊎◌, inl, inr, ℕ, ◌≤◌, ◌<◌, length, arith, Bool, true, false, cond, ◌&&◌, List, [], ◌∷◌, Option, Some, None, Ok, refl, ap}
 use Rattle.std.proofs.lemmas.Bool.Decides.{nat_tests}
 use Rattle.c_words.specs.Tokens.{Token, Placed}
 use Rattle.c_words.specs.declared.place.At.{At}
@@ -8,7 +8,6 @@ use Rattle.c_words.specs.declared.words.Reserved.TheVariants as w
 use Rattle.c_words.specs.declared.words.Punctuator.TheVariants as m
 use Rattle.c_tree.specs.GrammarLimits.{Limits, within_limits}
 use Rattle.c_tree.specs.GrammarRefusals.{Refusal}
-use Rattle.c_parser.specs.declared.cursor.Stop.{Stop}
 use Rattle.c_parser.specs.Programs.{Sort, Value, Rule, Program, Outcome}
 use Rattle.c_parser.specs.Tests.{first, is_semicolon, is_open_brace, is_open_bracket, begins_specifier, opens}
 use Rattle.c_parser.specs.Bodies.{body, statement_by, value_statement}

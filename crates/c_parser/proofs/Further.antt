@@ -1,5 +1,5 @@
 -- Which way the rules of declarations and statements go, by what the code asks of the next token.
-use Rattle.std.proofs.Common.{◌≡◌, ℕ, zero, suc, nat_eq, slice_get, ◌<◌, ◌≤◌, ◌&&◌, nat_lt, Bool, true, false, cond, List, [], ◌∷◌, length, Option, Some, None, Result, Ok, Err, refl, sym, ap, subst, ◌∙◌, map, arith}
+use Rattle.std.proofs.Common.{◌≡◌, ℕ, zero, suc, nat_eq, slice_get, ◌<◌, ◌≤◌, ◌&&◌, Bool, true, false, cond, List, [], ◌∷◌, length, Option, Some, None, Result, Ok, Err, refl, sym, ap, subst, map, arith}
 use Rattle.std.proofs.lemmas.Bool.Decides.{nat_tests}
 use Rattle.std.proofs.lemmas.Bool.{false≢true}
 use Rattle.c_words.specs.Tokens.{Token, Placed}
@@ -17,7 +17,7 @@ use Rattle.c_parser.specs.declared.cursor.Stop.{Stop}
 use Rattle.c_parser.specs.declared.cursor.Stop.TheVariants as stop
 use Rattle.c_parser.specs.Programs.{Sort, Value, Rule, Program, Outcome}
 use Rattle.c_parser.specs.Tests.{first, is_end, is_semicolon, is_equal, is_open_bracket, is_close_bracket, is_open_brace, is_close_brace, goes_on, is_else, is_some, is_compound, begins_statement, may_begin_statement, opens}
-use Rattle.c_parser.specs.Bodies.{body, is_void, is_no_declarator, is_lone_void, parameters_of, statement_by, value_statement, do_by, do_rest, parameter_declarator_by, declarator_by, head_by}
+use Rattle.c_parser.specs.Bodies.{is_void, is_no_declarator, is_lone_void, parameters_of, statement_by, value_statement, do_by, do_rest, parameter_declarator_by, declarator_by, head_by}
 use Rattle.c_parser.specs.Runs.{Runs}
 use Rattle.c_parser.specs.Reads.{Reads, Answers, name_of, place_of}
 use Rattle.c_parser.proofs.CodeSteps.{looked, refused}

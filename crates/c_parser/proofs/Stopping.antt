@@ -1,5 +1,5 @@
 -- Where reading stops, as the answer to the caller.
-use Rattle.std.proofs.Common.{◌≡◌, ℕ, zero, suc, slice_get, ◌+◌, ◌-◌, ◌<◌, List, [], ◌∷◌, ◌++◌, length, map, Option, Some, None, Result, Ok, Err, refl, sym, ap, subst, ◌∙◌, length-append, arith}
+use Rattle.std.proofs.Common.{◌≡◌, ℕ, zero, suc, slice_get, ◌+◌, ◌-◌, ◌<◌, List, [], ◌∷◌, ◌++◌, length, Some, None, Ok, refl, sym, ap, subst, ◌∙◌, length-append, arith}
 use Rattle.c_words.specs.Tokens.{Placed}
 use Rattle.c_words.specs.declared.place.At.{At}
 use Rattle.c_lexer.specs.declared.token.Token.{Token as Rattle_Token}
@@ -11,7 +11,6 @@ use Rattle.c_tree.specs.SyntaxViews.{unit_tree}
 use Rattle.c_tree.specs.GrammarLimits.{within_limits}
 use Rattle.c_tree.specs.Grammar.{Derives}
 use Rattle.c_tree.specs.GrammarRefusals.{Refusal, IsRefused, line_of}
-use Rattle.c_parser.specs.declared.cursor.Stop.{Stop}
 use Rattle.c_parser.specs.Programs.{Sort, Rule, Outcome}
 use Rattle.c_parser.specs.Bodies.{body}
 use Rattle.c_parser.specs.Runs.{Runs}

@@ -74,7 +74,7 @@ fn goes_to_flat_code(rt: HostRuntime) -> Result<(), Fail> {
         None => 0,
     };
     assert_eq!(rt; values, 4);
-    let flat = instrument(alloc, &mid)?;
+    let flat = instrument(alloc, &mid, 4)?;
     assert_eq!(rt; flat.functions.len(), 1);
     Ok(())
 }

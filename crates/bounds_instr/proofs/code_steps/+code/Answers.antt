@@ -11,14 +11,14 @@ pub code_steps-loop-x-preserved : goal.code_steps-loop-x-preserved
 code_steps-loop-x-preserved t c =
     let xs = c.args.xs.now in
     let i = c.loop-x.x-index in
-    let rest = instr.code c.args.values (mid.steps_of (drop (i + 1) xs)) in
+    let rest = instr.code c.args.g c.args.values (mid.steps_of (drop (i + 1) xs)) in
     ap (λ z. z +++ rest) c.in_ok-code_step.ensures
-    ∙ append_assoc (steps_of c.loop-x.code.items) (instr.step_code c.args.values (mid.step_of c.x-item.result)) rest
-    ∙ ap (λ z. steps_of c.loop-x.code.items +++ z) (sym (next_in (λ z. instr.code c.args.values (mid.steps_of z)) xs i c.x-item.result c.loop-x-test.true c.x-item.is))
+    ∙ append_assoc (steps_of c.loop-x.code.items) (instr.step_code c.args.g c.args.values (mid.step_of c.x-item.result)) rest
+    ∙ ap (λ z. steps_of c.loop-x.code.items +++ z) (sym (next_in (λ z. instr.code c.args.g c.args.values (mid.steps_of z)) xs i c.x-item.result c.loop-x-test.true c.x-item.is))
     ∙ c.loop-x.invariant
 
 pub code_steps-returns : goal.code_steps-returns
 code_steps-returns t c =
     sym (append_none (steps_of c.loop-x.code.items))
-    ∙ ap (λ z. steps_of c.loop-x.code.items +++ z) (sym (end_in (λ z. instr.code c.args.values (mid.steps_of z)) c.args.xs.now c.loop-x.x-index c.loop-x-test.false))
+    ∙ ap (λ z. steps_of c.loop-x.code.items +++ z) (sym (end_in (λ z. instr.code c.args.g c.args.values (mid.steps_of z)) c.args.xs.now c.loop-x.x-index c.loop-x-test.false))
     ∙ c.loop-x.invariant

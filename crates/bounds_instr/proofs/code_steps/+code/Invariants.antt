@@ -8,4 +8,4 @@ use Rattle.bounds_instr.proofs.code_steps.+code.Given as goal
 
 abbrev pub invariant-code_steps-loop-x : goal.invariant-code_steps-loop-x
 invariant-code_steps-loop-x l =
-    steps_of l.code.items +++ instr.code l.values (mid.steps_of (drop l.x-index l.xs)) ≡ steps_of l.initial.code.items +++ instr.code l.values (mid.steps_of l.xs)
+    steps_of l.code.items +++ instr.code l.g l.values (mid.steps_of (drop l.x-index l.xs)) ≡ steps_of l.initial.code.items +++ instr.code l.g l.values (mid.steps_of l.xs)

@@ -6,4 +6,4 @@ use Rattle.bounds_instr.specs.Code.{frameless_code}
 use Rattle.bounds_instr.proofs.instrument.code_functions.Given as goal
 
 abbrev pub invariant-loop-f : goal.invariant-loop-f
-invariant-loop-f l = map flat.function_of l.code ≡ map frameless_code (map mid.function_of (take l.f-index l.functions))
+invariant-loop-f l = map flat.function_of l.code ≡ map (frameless_code l.g) (map mid.function_of (take l.f-index l.functions))

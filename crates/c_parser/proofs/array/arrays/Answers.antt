@@ -5,7 +5,6 @@ use Rattle.c_parser.proofs.CodeSteps.{saw_yes, saw_no}
 use Rattle.c_parser.proofs.Choices.{no_open_bracket}
 use Rattle.c_parser.proofs.Fewer.{shorter_by, array_moves}
 use Rattle.c_parser.proofs.Lists.{collected, repeat_more, repeat_failed, repeat_end}
-use Rattle.c_tree.specs.declared.syntax.declarators.Array.{Array}
 use Rattle.c_parser.proofs.array.arrays.Goals as goal
 
 pub arrays-init : goal.arrays-init

@@ -5,7 +5,6 @@ use Rattle.c_parser.proofs.CodeSteps.{saw_yes, saw_no}
 use Rattle.c_parser.proofs.Choices.{no_comma}
 use Rattle.c_parser.proofs.Fewer.{comma_shorter}
 use Rattle.c_parser.proofs.Lists.{collected, commas_more, commas_end, commas_failed}
-use Rattle.c_tree.specs.declared.syntax.declarators.Declarator.{Declarator}
 use Rattle.c_parser.proofs.declaration.declarators.Goals as goal
 
 pub declarators-init : goal.declarators-init

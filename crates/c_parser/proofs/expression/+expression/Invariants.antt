@@ -1,4 +1,4 @@
-use Rattle.std.proofs.Common.{List, [], ◌+◌, ◌*◌, ◌-◌, ◌≤◌, ◌<◌, Result, Vec, Global, length}
+use Rattle.std.proofs.Common.{List, ◌+◌, ◌*◌, ◌≤◌, Result, Vec, Global, length}
 use Rattle.c_words.specs.Tokens.{Placed}
 use Rattle.c_tree.specs.declared.syntax.expressions.Expression.{Expression}
 use Rattle.c_tree.specs.SyntaxViews.{expression_tree, expression_trees}

@@ -8,7 +8,6 @@ use Rattle.c_parser.proofs.Choices.{no_comma}
 use Rattle.c_parser.proofs.Fewer.{comma_shorter}
 use Rattle.c_parser.proofs.Lists.{goes_stop, collected, parts_more, parts_comma, parts_end}
 use Rattle.c_parser.proofs.Further.{no_open_brace, no_close_brace}
-use Rattle.c_tree.specs.declared.syntax.declarations.Initializer.{Initializer}
 use Rattle.c_parser.proofs.initializer.+initializer.Goals as goal
 
 pub initializer-returns-in_err-value : goal.initializer-returns-in_err-value

@@ -5,7 +5,6 @@ use Rattle.c_parser.proofs.CodeSteps.{saw_yes, saw_no}
 use Rattle.c_parser.proofs.Choices.{no_comma}
 use Rattle.c_parser.proofs.Fewer.{comma_shorter}
 use Rattle.c_parser.proofs.Lists.{collected, commas_more, commas_end, commas_failed}
-use Rattle.c_tree.specs.declared.syntax.declarators.Parameter.{Parameter}
 use Rattle.c_parser.proofs.parameter.listed.Goals as goal
 
 pub parameters-init : goal.parameters-init

@@ -8,7 +8,6 @@ use Rattle.c_parser.proofs.CodeSteps.{called, call_failed, took, take_failed, ga
 use Rattle.c_parser.proofs.Fewer.{mark_opened, shorter_by, item_moves}
 use Rattle.c_parser.proofs.Lists.{goes_stop, collected, items_more, items_end}
 use Rattle.c_parser.proofs.Further.{no_close_brace, no_else, not_compound, do_body, do_deep, do_nothing, opens_not, opens_yes}
-use Rattle.c_tree.specs.declared.syntax.statements.BlockItem.{BlockItem}
 use Rattle.c_parser.proofs.statement.+statement.Goals as goal
 
 pub statement-returns-in_err-block : goal.statement-returns-in_err-block

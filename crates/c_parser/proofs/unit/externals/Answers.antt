@@ -4,7 +4,6 @@ use Rattle.c_parser.specs.Tests.{is_some}
 use Rattle.c_parser.proofs.Fewer.{shorter_by, external_moves}
 use Rattle.c_parser.proofs.Lists.{repeat_more, repeat_failed, repeat_end}
 use Rattle.c_parser.proofs.Further.{none_left, not_at_end, ended}
-use Rattle.c_tree.specs.declared.syntax.units.External.{External}
 use Rattle.c_parser.proofs.unit.externals.Goals as goal
 
 pub externals-init : goal.externals-init

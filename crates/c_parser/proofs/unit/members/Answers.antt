@@ -5,7 +5,6 @@ use Rattle.c_parser.proofs.CodeSteps.{saw_yes, saw_no}
 use Rattle.c_parser.proofs.Fewer.{shorter_by, member_moves}
 use Rattle.c_parser.proofs.Lists.{repeat_more, repeat_failed, repeat_end}
 use Rattle.c_parser.proofs.Further.{no_end}
-use Rattle.c_tree.specs.declared.syntax.declarations.MemberDeclaration.{MemberDeclaration}
 use Rattle.c_parser.proofs.unit.members.Goals as goal
 
 pub members-init : goal.members-init

@@ -1,4 +1,4 @@
-use Rattle.std.proofs.Common.{◌≡◌, true, false, List, [], ◌∷◌, Option, Some, None, refl, sym, ◌∙◌}
+use Rattle.std.proofs.Common.{◌≡◌, true, false, List, [], ◌∷◌, Some, None, refl, sym, ◌∙◌}
 use Rattle.c_words.specs.Tokens.{Placed}
 use Rattle.c_words.specs.declared.place.At.{At}
 use Rattle.c_parser.specs.Tests.{first, is_end}
