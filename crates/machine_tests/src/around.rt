@@ -58,7 +58,6 @@ fn branch(to: u32) -> Part
 }
 
 /// Two parts with so many instructions before them, behind label 0, and so many behind them, before label 1.
-#[tactic(auto, using(crate::proofs::Resolvable::are_parts))]
 pub fn around(
     alloc: Global,
     before: usize,
@@ -71,6 +70,21 @@ pub fn around(
     ensures is { IfOk result (λ labelled. labelled.parts ≡ around before first second behind) }
     ensures parts { IfOk result (λ labelled. AreParts labelled.parts) }
 {
+    let parts = parts_around(alloc, before, first, second, behind)?;
+    Ok(Labelled {
+        parts: List::from_vec(parts),
+    })
+}
+
+fn parts_around(
+    alloc: Global,
+    before: usize,
+    first: Part,
+    second: Part,
+    behind: usize,
+) -> Result<Vec<Part>, AllocError>
+    ensures { IfOk result (λ parts. parts.items ≡ around before first second behind) }
+{
     let mut parts = Vec::new(alloc);
     parts.push(Part::Label(0))?;
     push_passes(alloc, &mut parts, before)?;
@@ -78,9 +92,7 @@ pub fn around(
     parts.push(second)?;
     push_passes(alloc, &mut parts, behind)?;
     parts.push(Part::Label(1))?;
-    Ok(Labelled {
-        parts: List::from_vec(parts),
-    })
+    Ok(parts)
 }
 
 fn push_passes(alloc: Global, parts: &mut Vec<Part>, count: usize) -> Result<(), AllocError>
