@@ -25,7 +25,7 @@ use Rattle.lowering.specs.Built as lowering
 use Rattle.lowering.specs.Built.{has_pointer, is_called, is_built_expr}
 use Rattle.lowering.specs.Lower.{only, operation, fitting, casting, flagged, one_operand, stepping, compound, binary_steps, second_at, assign_steps, right_at, local_of, places, calling, code, all_code, code_if_any, leaving, test_code, initial_code, initializer_code, declarations_code, start_code, return_code, stmt_code, stmts_code, function_code, lowered}
 use Rattle.lowering.specs.Room as room
-use Rattle.bounds_instr.specs.Built.{is_built_step, are_built_steps, is_none, are_built_functions, is_built}
+use Rattle.bounds_instr.specs.Built.{is_built_step, are_built_steps, is_none, is_built_function, are_built_functions, is_built}
 
 abbrev Built : Steps → Type 0
 Built xs = are_built_steps xs ≡ true
