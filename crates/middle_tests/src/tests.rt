@@ -1,9 +1,11 @@
-//! A program goes from its typed tree to mid code and to flat code, where memory is not wanting.
+//! A program goes from its typed tree to mid code and to flat code, and that is verified, where memory is not wanting.
 ghost use Rattle.std.specs.Prelude.{◌≡◌, [], IfOk, codes};
 ghost use Rattle.c_typed.specs.TypedLaws as laws;
 ghost use Rattle.c_typed.specs.TypedViews.{stmt_of, program_of};
 
 use bb_words::list::List;
+use bb_words::steps::Width;
+use bb_words::word::Word;
 use bounds_instr::instrument::instrument;
 use c_typed::typed::{Function, Program};
 use c_typed::typed_expr::{TypedExpr, TypedForm};
@@ -11,6 +13,10 @@ use c_typed::typed_laws;
 use c_typed::typed_stmt::TypedStmt;
 use c_typed::types::Ty;
 use c_words::place::{At, Name};
+use flat_code::code::{Flat, FlatFunction, FlatStep};
+use flat_verify::error::VerifyError;
+use flat_verify::layout::Layout;
+use flat_verify::verify::verify;
 use lowering::lower::lower;
 use std::alloc::{AllocError, Global};
 use std::test::Fail;
@@ -76,5 +82,56 @@ fn goes_to_flat_code(rt: HostRuntime) -> Result<(), Fail> {
     assert_eq!(rt; values, 4);
     let flat = instrument(alloc, &mid, 4)?;
     assert_eq!(rt; flat.functions.len(), 1);
+    let layout = no_globals(alloc);
+    let verified = verify(alloc, &flat, &layout, 4)?;
+    assert_eq!(rt; verified.exponent, 4);
+    Ok(())
+}
+
+fn no_globals(alloc: Global) -> Layout
+    ensures { result.globals ≡ [] }
+{
+    Layout {
+        globals: List::new(alloc),
+    }
+}
+
+/// One function of one value, which becomes 7 and then the byte at that address.
+fn loads_a_number(alloc: Global) -> Result<Flat, AllocError> {
+    let mut body = List::new(alloc);
+    body.push(FlatStep::Number {
+        to: 0,
+        value: Word(7),
+    })?;
+    body.push(FlatStep::Load {
+        to: 0,
+        at: 0,
+        width: Width::Byte,
+    })?;
+    let mut functions = List::new(alloc);
+    functions.push(FlatFunction {
+        values: 1,
+        params: 0,
+        frame: 0,
+        line: 1,
+        body,
+    })?;
+    Ok(Flat {
+        functions,
+        main: 0,
+        initial: List::new(alloc),
+    })
+}
+
+#[test]
+fn number_is_no_address(rt: HostRuntime) -> Result<(), Fail> {
+    let alloc = rt.alloc();
+    let flat = loads_a_number(alloc)?;
+    let layout = no_globals(alloc);
+    let place = match verify(alloc, &flat, &layout, 4) {
+        Err(VerifyError::Unchecked { function: 0, place }) => Some(place),
+        _ => None,
+    };
+    assert_eq!(rt; place, Some(1));
     Ok(())
 }
