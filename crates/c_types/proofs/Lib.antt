@@ -4,3 +4,11 @@ pub mod Refusals
 pub mod Arguments
 pub mod InTurn
 pub mod SmallFiles
+pub mod Pushed
+pub mod InScopes
+pub mod Layouts
+pub mod AllMarks
+pub mod Wholes
+pub mod Initials
+pub mod GivenCounts
+pub mod ForLoops

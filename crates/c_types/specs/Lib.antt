@@ -3,8 +3,14 @@ pub mod Scene
 pub mod Parts
 pub mod Expressions
 pub mod Declarators
+pub mod DeclaratorSteps
 pub mod Structs
+pub mod StructSteps
 pub mod Initializers
+pub mod InitializerSteps
 pub mod Statements
+pub mod StatementSteps
+pub mod Marks
 pub mod Units
+pub mod UnitSteps
 pub mod Examples

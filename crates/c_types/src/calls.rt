@@ -256,7 +256,7 @@ fn function_called(
 }
 
 /// Marks the function as called.
-fn mark(called: &mut Vec<bool>, place: u32)
+pub fn mark(called: &mut Vec<bool>, place: u32)
     ensures { called.new.items ≡ slice_set called.old.items place true }
 {
     if (place as usize) < called.len() {

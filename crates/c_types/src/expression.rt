@@ -25,7 +25,7 @@ use std::alloc::{AllocError, Global};
 use std::mem;
 
 /// Strings that stand side by side, as one.
-fn joined(alloc: Global, pieces: &[Bytes]) -> Result<Bytes, AllocError>
+pub fn joined(alloc: Global, pieces: &[Bytes]) -> Result<Bytes, AllocError>
     ensures { IfOk result (λ bytes. bytes ≡ spec.joined pieces.now) }
 {
     let mut bytes = Vec::new(alloc);
@@ -61,7 +61,7 @@ fn text(alloc: Global, scene: &mut Scene, at: At, bytes: Bytes) -> Result<TypedE
 
 /// The number of the struct of a tag, whose first mention declares it.
 #[tactic(auto, using(crate::proofs::Steps::structs_pushed))]
-fn tagged(alloc: Global, scene: &mut Scene, tag: &[u8]) -> Result<u32, TypeError>
+pub fn tagged(alloc: Global, scene: &mut Scene, tag: &[u8]) -> Result<u32, TypeError>
     ensures { Runs (λ k. k) (scene_of scene.new) result (Ok (spec.tagged (scene_of scene.old) tag.now)) }
 {
     if let Some(number) = scene.tags.get(tag) {

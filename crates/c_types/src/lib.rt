@@ -2,8 +2,16 @@
 #![tactic(auto)]
 
 pub mod calls;
+pub mod declarator;
 pub mod expression;
+pub mod initial_bytes;
+pub mod initializer;
 pub mod laws;
+pub mod marks;
 pub mod parts;
 pub mod scene;
+pub mod scopes;
+pub mod statement;
+pub mod structs;
 pub mod table;
+pub mod unit;

@@ -165,7 +165,7 @@ fn made_by(
 }
 
 /// What the steps make of the type, one after the other.
-fn made(
+pub fn made(
     alloc: Global,
     structs: &[StructType],
     line: u32,
