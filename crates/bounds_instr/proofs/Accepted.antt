@@ -33,7 +33,7 @@ use Rattle.flat_verify.specs.Discipline.{setting_in, params_in, library_fits, ma
 use Rattle.flat_verify.specs.Derivations.{Signs, address_known, all_own, implied, passes_known, hands, Fit, Ready, Leads, Good, Goods, at_start, GoodFunction, GoodProgram}
 use Rattle.flat_verify.specs.Laws.{PlainItemsAreRead, DerivationsAreAccepted, ArePlainly}
 use Rattle.bounds_instr.specs.Built.{IsBuilt}
-use Rattle.bounds_instr.specs.Code.{quotient, order_step, factor, library_code, first_of, step_code, code, function_code, instrumented}
+use Rattle.bounds_instr.specs.Code.{quotient, order_step, factor, library_code, first_of, second_of, step_code, code, function_code, instrumented}
 use Rattle.bounds_instr.proofs.Fits.{HasArguments, Fits, AllFit, signature_is, functions_fit, first_is, second_is}
 
 -- ---- The items of code
@@ -45,12 +45,15 @@ joined (next i a) b = next i (joined a b)
 abbrev one : FStep → Items
 one s = next (Item.Plain s) end
 
+abbrev pub allocation_items : (t to count size : ℕ) → Items
+allocation_items t to a b = next (Item.Plain (FStep.Arith t op.Mulhu a b)) (next (Item.If t (one (FStep.Number t 0xffff_ffff)) (one (FStep.Arith t op.Mul a b))) (one (FStep.Env to 4 t t)))
+
 abbrev pub library_items : (t : ℕ) → LibCall → (to line : ℕ) → (args : List ℕ) → Items
 library_items t lib.Putchar to line args = one (FStep.Env to 3 (first_of args) (first_of args))
 library_items t lib.Getchar to line args = one (FStep.Env to 2 to to)
 library_items t lib.Exit to line args = one (FStep.Env to 1 (first_of args) (first_of args))
 library_items t lib.Malloc to line args = one (FStep.Env to 4 (first_of args) (first_of args))
-library_items t lib.Calloc to line args = end
+library_items t lib.Calloc to line args = allocation_items t to (first_of args) (second_of args)
 library_items t lib.Free to line args = next (Item.Plain (FStep.Number t line)) (next (Item.Plain (FStep.Env to 5 (first_of args) t)) (one (FStep.Number to 0)))
 library_items t lib.Memcpy to line args = end
 library_items t lib.Memset to line args = end
@@ -178,7 +181,7 @@ library_plainly t lib.Getchar to line args = ((refl, refl), tt)
 library_plainly t lib.Exit to line args = ((refl, refl), tt)
 library_plainly t lib.Malloc to line args = ((refl, refl), tt)
 library_plainly t lib.Free to line args = ((refl, refl), ((refl, refl), ((refl, refl), tt)))
-library_plainly t lib.Calloc to line args = tt
+library_plainly t lib.Calloc to line args = ((refl, refl), ((((refl, refl), tt), ((refl, refl), tt)), ((refl, refl), tt)))
 library_plainly t lib.Memcpy to line args = tt
 library_plainly t lib.Memset to line args = tt
 
@@ -794,6 +797,27 @@ module _ (g : ℕ) (s : Setting) (sg : Signs) (gives : Bool) where
               (covers_set M (with_kind to Kind.IsNumber k) h (FStep.Number to 0) to Kind.IsNumber (covers_same M) refl (no_pointer M (clean_of s h (FStep.Number to 0)))),
         )
 
+    allocation_good : (E : List Known) (k : Kinds) (h : Here) (to a b : ℕ) → to < n → a < n → b < n → Goods g s sg gives E h (known n [] k) (allocation_items n to a b) (known n [] (with_kind to Kind.IsPointer k))
+    allocation_good E k h to a b lt la lb = (
+      known n (n ∷ []) k,
+      plain_temporary E [] k h (FStep.Arith n op.Mulhu a b) n (omega arith) refl refl (arith_ready E [] k n op.Mulhu a b first_temporary (value a la) (value b lb) (own_value [] k a la) (own_value [] k b lb)),
+      (
+        known n (n ∷ n ∷ []) k,
+        (
+          first_temporary,
+          own_temporary (n ∷ []) k n (among_here n []),
+          (known n (n ∷ n ∷ []) k, plain_temporary E (n ∷ []) k (branch (past (FStep.Arith n op.Mulhu a b) h) n) (FStep.Number n 0xffff_ffff) n (omega arith) refl refl (number_ready E (n ∷ []) k n 0xffff_ffff first_temporary), covers_same (known n (n ∷ n ∷ []) k)),
+          (known n (n ∷ n ∷ []) k, plain_temporary E (n ∷ []) k untold (FStep.Arith n op.Mul a b) n (omega arith) refl refl (arith_ready E (n ∷ []) k n op.Mul a b first_temporary (value a la) (value b lb) (own_value (n ∷ []) k a la) (own_value (n ∷ []) k b lb)), covers_same (known n (n ∷ n ∷ []) k)),
+        ),
+        (
+          known n [] (with_kind to Kind.IsPointer k),
+          plain_set E (known n (n ∷ n ∷ []) k) k untold (FStep.Env to 4 n n) to Kind.IsPointer (without_temporaries (n ∷ n ∷ []) k) refl refl (λ e. refl)
+              (call_ready E (n ∷ n ∷ []) k to 4 n n (value to lt) first_temporary first_temporary (own_temporary (n ∷ n ∷ []) k n (among_here n (n ∷ []))) (own_temporary (n ∷ n ∷ []) k n (among_here n (n ∷ []))) refl),
+          covers_same (known n [] (with_kind to Kind.IsPointer k)),
+        ),
+      ),
+    )
+
     library_good : (E : List Known) (k : Kinds) (h : Here) (which : LibCall) (to line : ℕ) (args : List ℕ) → to < n → HasArguments n which args → Goods g s sg gives E h (known n [] k) (library_items n which to line args) (known n [] (with_kind to (signature_of which).result k))
     library_good E k h lib.Putchar to line args lt f =
         subst (λ z. Goods g s sg gives E h (known n [] k) (library_items n lib.Putchar to line z) (known n [] (with_kind to Kind.IsNumber k))) (sym f.1)
@@ -812,7 +836,8 @@ module _ (g : ℕ) (s : Setting) (sg : Signs) (gives : Bool) where
         )
     library_good E k h lib.Free to line args lt f =
         subst (λ z. Goods g s sg gives E h (known n [] k) (library_items n lib.Free to line z) (known n [] (with_kind to Kind.IsNumber k))) (sym f.1) (free_good E k h to line f.0 lt f.2)
-    library_good E k h lib.Calloc to line args lt f = absurd f
+    library_good E k h lib.Calloc to line args lt f =
+        subst (λ z. Goods g s sg gives E h (known n [] k) (library_items n lib.Calloc to line z) (known n [] (with_kind to Kind.IsPointer k))) (sym f.2) (allocation_good E k h to f.0 f.1 lt f.3 f.4)
     library_good E k h lib.Memcpy to line args lt f = absurd f
     library_good E k h lib.Memset to line args lt f = absurd f
 

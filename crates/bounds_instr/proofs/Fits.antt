@@ -21,7 +21,7 @@ HasArguments n lib.Putchar args = (a : ℕ) × (args ≡ a ∷ []) × (a < n)
 HasArguments n lib.Exit args = (a : ℕ) × (args ≡ a ∷ []) × (a < n)
 HasArguments n lib.Getchar args = Unit {0}
 HasArguments n lib.Malloc args = (a : ℕ) × (args ≡ a ∷ []) × (a < n)
-HasArguments n lib.Calloc args = ⊥
+HasArguments n lib.Calloc args = (a : ℕ) × (b : ℕ) × (args ≡ a ∷ b ∷ []) × (a < n) × (b < n)
 HasArguments n lib.Free args = (a : ℕ) × (args ≡ a ∷ []) × (a < n)
 HasArguments n lib.Memcpy args = ⊥
 HasArguments n lib.Memset args = ⊥
@@ -71,12 +71,33 @@ one_argument k kind n (a ∷ b ∷ args) e h = absurd (true≢false (ap (λ xs. 
     has_two (x ∷ []) = false
     has_two (x ∷ y ∷ xs) = true
 
+two_arguments : (k : Kinds) (first second : Kind) (n : ℕ) (args : List ℕ) → map k args ≡ first ∷ second ∷ [] → All (λ a. a < n) args → (a : ℕ) × (b : ℕ) × (args ≡ a ∷ b ∷ []) × (a < n) × (b < n)
+two_arguments k first second n [] e h = absurd (true≢false (ap (λ xs. is_empty xs) e))
+  where
+    is_empty : List Kind → Bool
+    is_empty [] = true
+    is_empty (x ∷ xs) = false
+two_arguments k first second n (a ∷ []) e h = absurd (true≢false (ap (λ xs. is_single xs) e))
+  where
+    is_single : List Kind → Bool
+    is_single [] = false
+    is_single (x ∷ []) = true
+    is_single (x ∷ y ∷ xs) = false
+two_arguments k first second n (a ∷ b ∷ []) e h = (a, b, refl, h 0 a (omega arith), h 1 b (omega arith))
+two_arguments k first second n (a ∷ b ∷ c ∷ args) e h = absurd (true≢false (ap (λ xs. has_three xs) e))
+  where
+    has_three : List Kind → Bool
+    has_three [] = false
+    has_three (x ∷ []) = false
+    has_three (x ∷ y ∷ []) = false
+    has_three (x ∷ y ∷ z ∷ xs) = true
+
 arguments_fit : (n : ℕ) (k : Kinds) (which : LibCall) (args : List ℕ) → is_of_environment which ≡ true → ArePassed k args (signature_of which).params → All (λ a. a < n) args → HasArguments n which args
 arguments_fit n k lib.Putchar args b e h = one_argument k _ n args e h
 arguments_fit n k lib.Exit args b e h = one_argument k _ n args e h
 arguments_fit n k lib.Getchar args b e h = tt
 arguments_fit n k lib.Malloc args b e h = one_argument k _ n args e h
-arguments_fit n k lib.Calloc args b e h = absurd (true≢false (sym b))
+arguments_fit n k lib.Calloc args b e h = two_arguments k _ _ n args e h
 arguments_fit n k lib.Free args b e h = one_argument k _ n args e h
 arguments_fit n k lib.Memcpy args b e h = absurd (true≢false (sym b))
 arguments_fit n k lib.Memset args b e h = absurd (true≢false (sym b))

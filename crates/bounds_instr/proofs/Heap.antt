@@ -1,14 +1,14 @@
 -- Blocks of the heap are taken and given back.
 use Rattle.std.specs.Prelude.{◌==◌, nat_le, if◌then◌else◌}
-use Rattle.std.proofs.Common.{◌≡◌, ℕ, ◌+◌, ◌-◌, ◌*◌, ◌≤◌, Bool, true, false, List, [], ◌∷◌, ◌++◌, Option, Some, None, slice_get, refl, sym, ap, ◌∙◌, subst, arith, ⊎_elim, ne_eqb, eq-eqb}
+use Rattle.std.proofs.Common.{◌≡◌, ℕ, ◌+◌, ◌-◌, ◌*◌, ◌<◌, ◌≤◌, Bool, true, false, List, [], ◌∷◌, ◌++◌, Option, Some, None, slice_get, refl, sym, ap, ◌∙◌, subst, arith, ⊎_elim, ne_eqb, eq-eqb, lt-ltb}
 use Rattle.std.proofs.lemmas.Bool.Decides.{nat_tests}
 use Rattle.std.proofs.lemmas.Option.{none-some}
 use Rattle.bb_words.specs.Answers.{Goes, Ends, and_then}
 use Rattle.bb_words.specs.declared.kinds.ReportKind.TheVariants.{BadFree}
-use Rattle.size_table.specs.declared.memory_map.TheConstants.{HEAP_START}
+use Rattle.size_table.specs.declared.memory_map.TheConstants.{HEAP_START, MOST_BYTES}
 use Rattle.size_table.specs.Blocks.{Block, block_at, without}
 use Rattle.size_table.specs.Pads.{exponent_of}
-use Rattle.buddy_heap.specs.Places.{block_from}
+use Rattle.buddy_heap.specs.Places.{place_of, block_from}
 use Rattle.source_meaning.specs.declared.values.Value.{Value}
 use Rattle.source_meaning.specs.declared.values.Pointer.TheVariants.{Null}
 use Rattle.source_meaning.specs.declared.values.Value.TheVariants.{Num, Ptr}
@@ -21,7 +21,7 @@ use Rattle.mid_code.specs.Meaning as mid
 use Rattle.flat_code.specs.Told.{Tell, Stamped}
 use Rattle.flat_code.specs.World.{FPoint, point, put, choose, Ending, Run, onward}
 use Rattle.flat_code.specs.World as flat
-use Rattle.flat_code.specs.Accounts.{make, end, malloc, heap_block, give_back}
+use Rattle.flat_code.specs.Accounts.{make, end, allot, malloc, heap_block, give_back}
 use Rattle.flat_code.specs.Accounts as accounts
 use Rattle.flat_code.specs.Run.{goes}
 use Rattle.injection.specs.Words.{word_of, word_of_value}
@@ -41,6 +41,13 @@ pub record HeapLaws : Type 0 where
   pub places : PlacesKeep
   pub allocates : AllocationsAreOfBlocks
   pub frees : FreesAreOfBlocks
+
+-- what is more than there is is refused alike
+pub both_refused : (g to m n : ℕ) (u : FPoint) → MOST_BYTES < m → MOST_BYTES < n → malloc g to m u ≡ malloc g to n u
+both_refused g to m n u p q = refused m p ∙ sym (refused n q)
+  where
+    refused : (k : ℕ) → MOST_BYTES < k → malloc g to k u ≡ put to 0 u
+    refused k r = ap (λ b. choose b (λ t. put to 0 t) (λ t. allot to (exponent_of g k) (place_of t.world.live (exponent_of g k)) t) u) (lt-ltb MOST_BYTES k r)
 
 -- a block of the heap begins in the heap
 in_heap : (at : ℕ) (blocks : List Block) (b : Block) → heap_block at blocks ≡ Some b → HEAP_START ≤ at
@@ -111,15 +118,20 @@ module _ (laws : HeapLaws) (g : ℕ) (big : 1 ≤ g) (small : g ≤ 24) (safe : 
           word e = subst (λ z. e.base ≡ word_of_value z.objects y) e.world (subst (λ z. e.base ≡ word_of_value x.objects z) (sym e.value) (sym e.word))
   malloc_answers s to n v u t (Ends e x) k h = absurd k
 
-  -- a number of bytes is taken
+  -- so many bytes are taken
+  pub taken_follows : (s to n : ℕ) (v : Point) (u : FPoint) → Meets g safe fr s v u → Follows safe (Left g safe fr d s) (and_then (done_at v (allocate g n v.world)) (λ x t. Goes On (set to x t))) (goes (malloc g to n u))
+  taken_follows s to n v u h =
+      malloc_answers s to n v u (malloc g to n u) (allocate g n v.world)
+      (laws.allocates g n to v.world u big small h.agrees.world.injects h.agrees.world.blocks h.agrees.world.heights h.agrees.world.regions) h
+
+  -- as many as a value says
   pub malloc_follows : (s to : ℕ) (x : Value) (word : ℕ) (v : Point) (u : FPoint) → word ≡ word_of_value v.world.objects x → Grows u (goes (malloc g to word u)) → Meets g safe fr s v u → Follows safe (Left g safe fr d s) (setting to (with_number x (allocate g)) v) (goes (malloc g to word u))
   unfolding and_then
   malloc_follows s to (Ptr q) word v u is grown h =
       record { by = left g safe fr s (at_world v.world v) u _ grown (unchanged g safe fr s v u h) }
   malloc_follows s to (Num n) word v u is grown h =
       to_equal safe (Left g safe fr d s) _ _ (goes (malloc g to n u)) (ap (λ z. goes (malloc g to z u)) is)
-      (malloc_answers s to n v u (malloc g to n u) (allocate g n v.world)
-      (laws.allocates g n to v.world u big small h.agrees.world.injects h.agrees.world.blocks h.agrees.world.heights h.agrees.world.regions) h)
+      (taken_follows s to n v u h)
 
   -- ---- An object ends
 

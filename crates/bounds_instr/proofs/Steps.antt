@@ -1,8 +1,10 @@
 -- The steps of mid code, and the flat code that follows them.
-use Rattle.std.specs.Prelude.{◌==◌, not, ◌%◌, if◌then◌else◌, None}
-use Rattle.std.proofs.Common.{◌≡◌, ℕ, zero, suc, ◌+◌, ◌^◌, ◌<◌, ◌≤◌, Bool, true, false, List, [], ◌∷◌, ◌++◌, map, All, refl, sym, ap, ◌∙◌, subst, arith}
+use Rattle.std.specs.Prelude.{◌==◌, not, ◌%◌, ◌/◌, ◌*◌, nat_lt, if◌then◌else◌, None}
+use Rattle.std.proofs.Common.{◌≡◌, ℕ, zero, suc, ◌+◌, ◌^◌, ◌<◌, ◌≤◌, Bool, true, false, List, [], ◌∷◌, ◌++◌, map, All, refl, sym, ap, ◌∙◌, subst, arith, ne_eqb}
+use Rattle.std.proofs.lemmas.Bool.Decides.{nat_tests}
 use Rattle.std.proofs.lemmas.List.Elements.{All-nil, All-cons, All-head, All-tail}
 use Rattle.bb_words.specs.Answers.{Goes, Ends, and_then, either}
+use Rattle.bb_words.specs.Numbers.{product, unsigned_high_product}
 use Rattle.bb_words.specs.Steps.{flag, arith as calculated, divided}
 use Rattle.bb_words.specs.declared.kinds.ReportKind.TheVariants.{DivZero}
 use Rattle.bb_words.specs.declared.steps.ArithOp.{ArithOp}
@@ -21,7 +23,7 @@ use Rattle.source_meaning.specs.Objects.{Object}
 use Rattle.source_meaning.specs.Worlds.{World, Does, Line, noted, with_number, with_pointer}
 use Rattle.source_meaning.specs.Accesses.{load}
 use Rattle.source_meaning.specs.Comparisons.{same, truth}
-use Rattle.source_meaning.specs.Accounts.{put as write_out, get_from, free, library}
+use Rattle.source_meaning.specs.Accounts.{put as write_out, get_from, allocate, free, library}
 use Rattle.source_meaning.specs.Numbers.{unless_zero}
 use Rattle.mid_code.specs.Code.{Step, Steps, Program}
 use Rattle.mid_code.specs.Times.{charge}
@@ -41,14 +43,14 @@ use Rattle.injection.specs.Trail.{SafeSites}
 use Rattle.injection.specs.Laws.{SaysKeep, TrailsAppend, TruthIsOfWords, ComparisonsAreOfWords, StoresAreWrites, LoadsAreReads, GivesAlike}
 use Rattle.flat_code.specs.Laws.{LoadSequenceLoads, LoadSequenceStops}
 use Rattle.bounds_instr.specs.Keeps.{Begins}
-use Rattle.bounds_instr.specs.Code.{quotient, division, library_code, step_code, code}
+use Rattle.bounds_instr.specs.Code.{quotient, division, allocation, library_code, step_code, code}
 use Rattle.bounds_instr.proofs.Words.{calculated_fits, flag_fits}
 use Rattle.bounds_instr.proofs.Follow.{Follows, Grows, grows_on, grows_end, turns_grow, onward_grows, follows_then, follows_goes, to_equal, acts_append, only_acts}
-use Rattle.bounds_instr.proofs.Meets.{Frame, Meets, word_here, gained, spent, earned, flat_spent, sets_temporary, unchanged, sets, wrote, took, marked, stopped, cut, left, WaysAlike, Left, Gave, Enters, enters, Replies, setting_follows}
+use Rattle.bounds_instr.proofs.Meets.{Frame, Meets, word_here, word_there, gained, spent, earned, flat_spent, sets_temporary, unchanged, sets, wrote, took, marked, stopped, cut, left, WaysAlike, Left, Gave, Enters, enters, Replies, setting_follows}
 use Rattle.bounds_instr.proofs.Orders.{ordering_follows, subtraction_follows}
 use Rattle.bounds_instr.proofs.Accesses.{store_follows, load_follows, pointer_follows}
 use Rattle.bounds_instr.proofs.Moves.{MoveLaws, elements_follow, distance_follows}
-use Rattle.bounds_instr.proofs.Heap.{HeapLaws, malloc_follows, free_follows}
+use Rattle.bounds_instr.proofs.Heap.{HeapLaws, taken_follows, malloc_follows, both_refused, free_follows}
 use Rattle.bounds_instr.proofs.Fits.{HasArguments, Fits, AllFit}
 
 -- ---- Ways
@@ -88,6 +90,14 @@ quotient_is divide.Div a b = refl
 quotient_is divide.Divu a b = refl
 quotient_is divide.Rem a b = refl
 quotient_is divide.Remu a b = refl
+
+-- ---- Products
+
+low_high : (x : ℕ) → x < 4294967296 → x / 2 ^ 32 ≡ 0
+low_high x lt = omega (arith, lt)
+
+low_product : (x : ℕ) → x < 4294967296 → x % 2 ^ 32 ≡ x
+low_product x lt = omega (arith, lt)
 
 -- ---- Calls
 
@@ -280,6 +290,67 @@ module _ (laws : Laws) (g : ℕ) (big : 2 ≤ g) (small : g ≤ 24) (safe : Safe
         free_follows laws.heap g (omega (arith, big)) small safe fr d s to line (v.values a) (u1.words a) (u1.words n) (mid.spend 64 v) (point u1.words (flat.spend 5 u1.world)) (h1.values.each a la) (word_here u.words n line) (h1.values.formed a la)
         (flat_spent g safe fr 5 (s + 8) (s + 3) (mid.spend 64 v) u1 (omega arith) h1)
 
+    -- room for so many elements of a size
+    allocating : (d s to a b : ℕ) (v : Point) (u : FPoint) → a < fr.values → b < fr.values → Meets g safe fr s v u → Follows safe (Left g safe fr d s) (setting to (with_number (v.values a) (λ i. with_number (v.values b) (λ j. allocate g (i * j)))) (mid.spend 1024 v)) (run.act_all g call m frame (allocation fr.values to a b) u)
+    unfolding and_then
+    allocating d s to a b v u la lb h = of (v.values a) (v.values b) refl refl
+      where
+        n : ℕ
+        n = fr.values
+
+        w1 : flat.Words
+        w1 = with_word u.words n (unsigned_high_product (u.words a) (u.words b))
+
+        p1 : FPoint
+        p1 = point w1 (flat.spend 6 (flat.spend 5 u.world))
+
+        h1 : Meets g safe fr (s + 64) (mid.spend 1024 v) (point w1 (flat.spend 5 u.world))
+        h1 = sets_temporary g safe fr 5 (s + 1024) (s + 64) n (unsigned_high_product (u.words a) (u.words b)) (mid.spend 1024 v) u (omega arith) (omega arith) (gained g safe fr 1024 s (s + 1024) v u (omega arith) h)
+
+        h2 : Meets g safe fr (s + 58) (mid.spend 1024 v) p1
+        h2 = flat_spent g safe fr 6 (s + 64) (s + 58) (mid.spend 1024 v) (point w1 (flat.spend 5 u.world)) (omega arith) h1
+
+        -- the size is a word, or it is none
+        whole : FPoint
+        whole = point (with_word w1 n (product (w1 a) (w1 b))) (flat.spend 5 (flat.spend 5 p1.world))
+
+        greatest : FPoint
+        greatest = point (with_word w1 n 4294967295) (flat.spend 5 (flat.spend 3 p1.world))
+
+        met_whole : Meets g safe fr s (mid.spend 1024 v) whole
+        met_whole = flat_spent g safe fr 5 (s + 5) s (mid.spend 1024 v) (point (with_word w1 n (product (w1 a) (w1 b))) (flat.spend 5 p1.world)) (omega arith) (sets_temporary g safe fr 5 (s + 58) (s + 5) n (product (w1 a) (w1 b)) (mid.spend 1024 v) p1 (omega arith) (omega arith) h2)
+
+        met_greatest : Meets g safe fr s (mid.spend 1024 v) greatest
+        met_greatest = flat_spent g safe fr 5 (s + 5) s (mid.spend 1024 v) (point (with_word w1 n 4294967295) (flat.spend 3 p1.world)) (omega arith) (sets_temporary g safe fr 3 (s + 58) (s + 5) n 4294967295 (mid.spend 1024 v) p1 (omega arith) (omega arith) h2)
+
+        decide : (t : Bool) (i j : ℕ) → u.words a ≡ i → u.words b ≡ j → nat_lt (i * j) 4294967296 ≡ t → Follows safe (Left g safe fr d s) (and_then (done_at (mid.spend 1024 v) (allocate g (i * j) v.world)) (λ x t. Goes On (set to x t))) (run.act_all g call m frame (allocation n to a b) u)
+        decide true i j ea eb e =
+            let lt : i * j < 4294967296 = grind (arith, nat_tests) in
+            let same : w1 a ≡ i = word_there u.words n a (unsigned_high_product (u.words a) (u.words b)) (λ q. omega (arith, la, q)) ∙ ea in
+            let other : w1 b ≡ j = word_there u.words n b (unsigned_high_product (u.words a) (u.words b)) (λ q. omega (arith, lb, q)) ∙ eb in
+            let none_high : (w1 n == 0) ≡ true = ap (λ z. z == 0) (word_here u.words n (unsigned_high_product (u.words a) (u.words b)) ∙ ap (λ z. unsigned_high_product z (u.words b)) ea ∙ ap (λ z. unsigned_high_product i z) eb ∙ low_high (i * j) lt) in
+            let size : with_word w1 n (product (w1 a) (w1 b)) n ≡ i * j = word_here w1 n (product (w1 a) (w1 b)) ∙ ap (λ z. product z (w1 b)) same ∙ ap (λ z. product i z) other ∙ low_product (i * j) lt in
+            to_equal safe (Left g safe fr d s) _ _ (goes (malloc g to (i * j) whole)) (ap (λ t. and_then (choose t (run.act_all g call m frame (more (FStep.Arith n op.Mul a b) none)) (run.act_all g call m frame (more (FStep.Number n 4294967295) none)) p1) (λ way t. onward way t (run.act_all g call m frame (more (FStep.Env to 4 n n) none)))) none_high ∙ ap (λ z. goes (malloc g to z whole)) size)
+            (taken_follows laws.heap g (omega (arith, big)) small safe fr d s to (i * j) (mid.spend 1024 v) whole met_whole)
+        decide false i j ea eb e =
+            let le : 4294967296 ≤ i * j = grind (arith, nat_tests) in
+            let some_high : (w1 n == 0) ≡ false = ap (λ z. z == 0) (word_here u.words n (unsigned_high_product (u.words a) (u.words b)) ∙ ap (λ z. unsigned_high_product z (u.words b)) ea ∙ ap (λ z. unsigned_high_product i z) eb) ∙ ne_eqb (i * j / 2 ^ 32) 0 (λ q. omega (arith, le, q)) in
+            to_equal safe (Left g safe fr d s) _ _ (goes (malloc g to (i * j) greatest)) (ap (λ t. and_then (choose t (run.act_all g call m frame (more (FStep.Arith n op.Mul a b) none)) (run.act_all g call m frame (more (FStep.Number n 4294967295) none)) p1) (λ way t. onward way t (run.act_all g call m frame (more (FStep.Env to 4 n n) none)))) some_high ∙ ap (λ z. goes (malloc g to z greatest)) (word_here w1 n 4294967295) ∙ ap goes (both_refused g to 4294967295 (i * j) greatest (omega arith) (omega (arith, le))))
+            (taken_follows laws.heap g (omega (arith, big)) small safe fr d s to (i * j) (mid.spend 1024 v) greatest met_greatest)
+
+        apart : Begins safe (at_world v.world (mid.spend 1024 v)) (run.act_all g call m frame (allocation n to a b) u)
+        apart = left g safe fr s (at_world v.world (mid.spend 1024 v)) u (run.act_all g call m frame (allocation n to a b) u) (grows (allocation n to a b) u) (unchanged g safe fr s (mid.spend 1024 v) u (earned g safe fr 1024 s v u h))
+
+        of : (x y : Value) → v.values a ≡ x → v.values b ≡ y → Follows safe (Left g safe fr d s) (setting to (with_number x (λ i. with_number y (λ j. allocate g (i * j)))) (mid.spend 1024 v)) (run.act_all g call m frame (allocation n to a b) u)
+        of (Num i) (Num j) ea eb = decide (nat_lt (i * j) 4294967296) i j (h.values.each a la ∙ ap (word_of_value v.world.objects) ea) (h.values.each b lb ∙ ap (word_of_value v.world.objects) eb) refl
+        of (Num i) (Ptr q) ea eb = record { by = apart }
+        of (Ptr q) y ea eb = record { by = apart }
+
+    calloc_follows : (d s to line site_a site_b : ℕ) (args : List ℕ) (v : Point) (u : FPoint) → HasArguments fr.values lib.Calloc args → Meets g safe fr s v u → Follows safe (Left g safe fr d s) (setting to (library g lib.Calloc site_a site_b line (map v.values args)) (mid.spend 1024 v)) (run.act_all g call m frame (library_code fr.values lib.Calloc to line args) u)
+    calloc_follows d s to line sa sb args v u f h =
+        subst (λ z. Follows safe (Left g safe fr d s) (setting to (library g lib.Calloc sa sb line (map v.values z)) (mid.spend 1024 v)) (run.act_all g call m frame (library_code fr.values lib.Calloc to line z) u)) (sym f.2)
+        (allocating d s to f.0 f.1 v u f.3 f.4 h)
+
     library_follows : (d s to line site_a site_b : ℕ) (which : LibCall) (args : List ℕ) (v : Point) (u : FPoint) → HasArguments fr.values which args → Meets g safe fr s v u → charge (Step.Library to which args line None None) ≡ 64 → Follows safe (Left g safe fr d s) (setting to (library g which site_a site_b line (map v.values args)) (mid.spend 64 v)) (run.act_all g call m frame (library_code fr.values which to line args) u)
     library_follows d s to line sa sb lib.Putchar args v u f h e =
         subst (λ z. Follows safe (Left g safe fr d s) (setting to (library g lib.Putchar sa sb line (map v.values z)) (mid.spend 64 v)) (run.act_all g call m frame (library_code fr.values lib.Putchar to line z) u)) (sym f.1)
@@ -296,7 +367,7 @@ module _ (laws : Laws) (g : ℕ) (big : 2 ≤ g) (small : g ≤ 24) (safe : Safe
         (one (FStep.Env to 4 f.0 f.0) d s _ u
         (malloc_follows laws.heap g (omega (arith, big)) small safe fr d s to (v.values f.0) (u.words f.0) (mid.spend 64 v) (point u.words (flat.spend 5 u.world)) (h.values.each f.0 f.2)
         (malloc_grows to f.0 u) (spent g safe fr 64 5 s s v u (omega arith) h)))
-    library_follows d s to line sa sb lib.Calloc args v u f h e = absurd f
+    library_follows d s to line sa sb lib.Calloc args v u f h e = absurd (omega (arith, e))
     library_follows d s to line sa sb lib.Free args v u f h e =
         subst (λ z. Follows safe (Left g safe fr d s) (setting to (library g lib.Free sa sb line (map v.values z)) (mid.spend 64 v)) (run.act_all g call m frame (library_code fr.values lib.Free to line z) u)) (sym f.1)
         (freeing d s to line f.0 v u f.2 h)
@@ -350,7 +421,7 @@ module _ (laws : Laws) (g : ℕ) (big : 2 ≤ g) (small : g ≤ 24) (safe : Safe
           called lib.Getchar e = library_follows d s to line (site_in a) (site_in b) lib.Getchar args v u e h refl
           called lib.Exit e = library_follows d s to line (site_in a) (site_in b) lib.Exit args v u e h refl
           called lib.Malloc e = library_follows d s to line (site_in a) (site_in b) lib.Malloc args v u e h refl
-          called lib.Calloc e = absurd e
+          called lib.Calloc e = calloc_follows d s to line (site_in a) (site_in b) args v u e h
           called lib.Free e = library_follows d s to line (site_in a) (site_in b) lib.Free args v u e h refl
           called lib.Memcpy e = absurd e
           called lib.Memset e = absurd e

@@ -80,9 +80,19 @@ moving_by g t to from distance line = steps (FStep.Number (t + 1) line ∷ FStep
 abbrev pub first_of : List ℕ → ℕ
 first_of args = slice_index_or args 0 0
 
+-- and the second
+abbrev pub second_of : List ℕ → ℕ
+second_of args = slice_index_or args 1 0
+
 -- A block is given back, and a value becomes 0. What is none is reported, with the line in a temporary.
 abbrev pub freeing : (t to line pointer : ℕ) → FSteps
 freeing t to line pointer = steps (FStep.Number t line ∷ FStep.Env to 5 pointer t ∷ FStep.Number to 0 ∷ [])
+
+-- Room for so many elements of a size is taken. A product that is no word is more than there is, as the greatest word is.
+abbrev pub allocation : (t to count size : ℕ) → FSteps
+allocation t to a b =
+    steps (FStep.Arith t op.Mulhu a b ∷ FStep.If t (steps (FStep.Number t 0xffff_ffff ∷ [])) (steps (FStep.Arith t op.Mul a b ∷ []))
+    ∷ FStep.Env to 4 t t ∷ [])
 
 -- calls of the library that the environment does
 abbrev pub library_code : (t : ℕ) → LibCall → (to line : ℕ) → (args : List ℕ) → FSteps
@@ -91,8 +101,8 @@ library_code t lib.Getchar to line args = steps (FStep.Env to 2 to to ∷ [])
 library_code t lib.Exit to line args = steps (FStep.Env to 1 (first_of args) (first_of args) ∷ [])
 library_code t lib.Malloc to line args = steps (FStep.Env to 4 (first_of args) (first_of args) ∷ [])
 library_code t lib.Free to line args = freeing t to line (first_of args)
+library_code t lib.Calloc to line args = allocation t to (first_of args) (second_of args)
 -- not built
-library_code t lib.Calloc to line args = none
 library_code t lib.Memcpy to line args = none
 library_code t lib.Memset to line args = none
 

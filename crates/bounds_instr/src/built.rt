@@ -10,10 +10,13 @@ fn is_of_environment(which: LibCall) -> bool
     ensures { result ≡ built.is_of_environment which }
 {
     match which {
-        LibCall::Putchar | LibCall::Getchar | LibCall::Exit | LibCall::Malloc | LibCall::Free => {
-            true
-        }
-        LibCall::Calloc | LibCall::Memcpy | LibCall::Memset => false,
+        LibCall::Putchar
+        | LibCall::Getchar
+        | LibCall::Exit
+        | LibCall::Malloc
+        | LibCall::Calloc
+        | LibCall::Free => true,
+        LibCall::Memcpy | LibCall::Memset => false,
     }
 }
 

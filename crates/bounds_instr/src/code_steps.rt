@@ -103,7 +103,7 @@ pub fn code_step(
             line,
             site_a: _,
             site_b: _,
-        } => put_library(code, values, *which, *to, *line, args.as_slice())?,
+        } => put_library(alloc, code, values, *which, *to, *line, args.as_slice())?,
         MidStep::If { cond, yes, no } => {
             let mut first = Vec::new(alloc);
             code_steps(alloc, g, values, yes, &mut first)?;

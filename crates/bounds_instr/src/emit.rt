@@ -152,9 +152,68 @@ fn put_free(
     Ok(())
 }
 
+fn second_of(args: &[u32]) -> u32
+    ensures { result ≡ instr.second_of args.now }
+{
+    if args.len() < 2 { 0 } else { args[1] }
+}
+
+/// Room for so many elements of a size is taken. A product that is no word is more than there is.
+#[tactic(auto, using(crate::proofs::Emitted::emitted))]
+fn put_allocation(
+    alloc: Global,
+    code: &mut Vec<FlatStep>,
+    temporary: u32,
+    to: u32,
+    count: u32,
+    size: u32,
+) -> Result<(), AllocError>
+    ensures { OnOk result (steps_of code.new.items ≡ steps_of code.old.items +++ instr.allocation temporary to count size) }
+{
+    let mut greatest = Vec::new(alloc);
+    put(
+        &mut greatest,
+        FlatStep::Number {
+            to: temporary,
+            value: Word(0xffff_ffff),
+        },
+    )?;
+    let mut product = Vec::new(alloc);
+    put(
+        &mut product,
+        FlatStep::Arith {
+            to: temporary,
+            op: ArithOp::Mul,
+            left: count,
+            right: size,
+        },
+    )?;
+    put(
+        code,
+        FlatStep::Arith {
+            to: temporary,
+            op: ArithOp::Mulhu,
+            left: count,
+            right: size,
+        },
+    )?;
+    put(code, choice(temporary, greatest, product))?;
+    put(
+        code,
+        FlatStep::Env {
+            to,
+            call: 4,
+            a: temporary,
+            b: temporary,
+        },
+    )?;
+    Ok(())
+}
+
 /// A call of the library that the environment does.
 #[tactic(auto, using(crate::proofs::Emitted::emitted))]
 pub fn put_library(
+    alloc: Global,
     code: &mut Vec<FlatStep>,
     temporary: u32,
     which: LibCall,
@@ -203,6 +262,7 @@ pub fn put_library(
             },
         ),
         LibCall::Free => put_free(code, temporary, to, line, first),
-        LibCall::Calloc | LibCall::Memcpy | LibCall::Memset => Ok(()),
+        LibCall::Calloc => put_allocation(alloc, code, temporary, to, first, second_of(args)),
+        LibCall::Memcpy | LibCall::Memset => Ok(()),
     }
 }
