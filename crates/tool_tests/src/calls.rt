@@ -108,7 +108,7 @@ fn words_are_read(rt: HostRuntime) -> Result<(), Fail> {
 const NOT_BUILT: &str = "baggy: refused NotBuilt\n";
 
 // A text, the statuses of its run and of its check, and the notes of each.
-const TEXTS: [(&str, u8, &str, u8, &str); 16] = [
+const TEXTS: [(&str, u8, &str, u8, &str); 17] = [
     ("int main(void) { return 40 + 2; }", 42, "", 0, ""),
     ("int main(void) { return 1 - 300; }", 213, "", 0, ""),
     (
@@ -143,7 +143,8 @@ const TEXTS: [(&str, u8, &str, u8, &str); 16] = [
         0,
         "",
     ),
-    ("", 124, AT_START, 124, AT_START),
+    ("", 124, NOT_BUILT, 0, ""),
+    ("return", 124, AT_START, 124, AT_START),
     (
         "int main(void){return (1;}",
         124,
