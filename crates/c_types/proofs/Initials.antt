@@ -1,7 +1,7 @@
 -- Parts of initializers.
 use Rattle.std.proofs.Common.{◌≡◌, ℕ, suc, ◌<◌, List, [], ◌∷◌, ◌++◌, ◌-◌, length, drop, take, length-drop, arith, refl, sym, ◌∙◌, ap, Bool}
 use Rattle.std.proofs.Math.Seq.{take-length}
-use Rattle.std.specs.Prelude.{Option, Some, None, Result}
+use Rattle.std.specs.Prelude.{Option, None, Result}
 use Rattle.c_tree.specs.Syntax.{InitializerTree, InitializerTrees}
 use Rattle.c_tree.specs.SyntaxViews.{initializer_tree, initializer_trees}
 use Rattle.c_tree.specs.declared.syntax.declarations.Initializer.{Initializer}
