@@ -1,5 +1,5 @@
 -- A local is marked after a walk over a statement exactly if it was marked before or `&` is applied to it there.
-use Rattle.std.proofs.Common.{◌≡◌, ℕ, zero, suc, ◌+◌, ◌<◌, List, [], ◌∷◌, length, get_or, replicate, refl, sym, ◌∙◌, ap, Bool, true, false, arith, Vec, Global}
+use Rattle.std.proofs.Common.{◌≡◌, ℕ, suc, ◌+◌, ◌<◌, List, [], ◌∷◌, length, get_or, refl, sym, ◌∙◌, ap, Bool, true, false, arith, Vec, Global}
 use Rattle.std.specs.Prelude.{◌||◌, ◌==◌, map, Option, Some, None, slice_set}
 use Rattle.std.proofs.lemmas.Bool.{eqb-true, eqb-false}
 use Rattle.std.proofs.lemmas.Grind.{get_or-set_at}
@@ -11,7 +11,7 @@ use Rattle.c_typed.specs.declared.typed_expr.TypedForm.{TypedForm}
 use Rattle.c_typed.specs.declared.typed_expr.TypedForm.TheVariants as form
 use Rattle.c_typed.specs.TypedViews.{viewed, form_view, expr_of, exprs_of}
 use Rattle.c_typed.proofs.TypedViewed.{view-Call}
-use Rattle.c_typed.specs.TypedTree.{CExpr, CForm, CExprs, CInitial, CInitials, CInitializer, CDeclaration, CStart, CStmt, CStmts, CStruct, CLocal}
+use Rattle.c_typed.specs.TypedTree.{CExpr, CForm, CExprs, CInitial, CInitials, CInitializer, CDeclaration, CStart, CStmt, CStmts, CStruct}
 use Rattle.c_typed.specs.Walk.{Sum, walked_operands, walked_all, any_of, some_expr, over_initial, over_initials, over_initializer, over_declaration, over_declarations, over_start, over_expr_if_any, over_stmt, over_stmts}
 use Rattle.c_typed.specs.Typed.{is_local, refers_to, stmt_refers}
 use Rattle.c_types.specs.declared.scene.Draft.{Draft}

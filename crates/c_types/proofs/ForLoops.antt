@@ -1,5 +1,5 @@
 -- A `for`, whose head is typed before its body.
-use Rattle.std.proofs.Common.{◌≡◌, ℕ, refl, sym, ◌∙◌, ap, Global}
+use Rattle.std.proofs.Common.{◌≡◌, refl, sym, ◌∙◌, ap, Global}
 use Rattle.std.specs.Prelude.{Box, Option, Ok, Err}
 use Rattle.std.specs.Option.{option_map}
 use Rattle.c_words.specs.declared.place.At.{At}

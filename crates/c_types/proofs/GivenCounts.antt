@@ -1,6 +1,6 @@
 -- The size that an initializer gives an array.
-use Rattle.std.proofs.Common.{◌≡◌, suc, List, [], ◌∷◌, length, refl, sym, ◌∙◌, ap, Bool, true, false}
-use Rattle.std.specs.Prelude.{Option, Some, None}
+use Rattle.std.proofs.Common.{◌≡◌, suc, List, [], ◌∷◌, length, refl, ap, true, false}
+use Rattle.std.specs.Prelude.{Some, None}
 use Rattle.c_tree.specs.Syntax.{ExpressionTree, InitializerTree}
 use Rattle.c_tree.specs.SyntaxViews.{initializer_trees}
 use Rattle.c_tree.specs.declared.syntax.declarations.Initializer.{Initializer}

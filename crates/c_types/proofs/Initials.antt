@@ -1,7 +1,7 @@
 -- Parts of initializers.
 use Rattle.std.proofs.Common.{◌≡◌, ℕ, suc, ◌<◌, List, [], ◌∷◌, ◌++◌, ◌-◌, length, drop, take, length-drop, arith, refl, sym, ◌∙◌, ap, Bool}
 use Rattle.std.proofs.Math.Seq.{take-length}
-use Rattle.std.specs.Prelude.{Option, Some, None, Result}
+use Rattle.std.specs.Prelude.{Option, None, Result}
 use Rattle.c_tree.specs.Syntax.{InitializerTree, InitializerTrees}
 use Rattle.c_tree.specs.SyntaxViews.{initializer_tree, initializer_trees}
 use Rattle.c_tree.specs.declared.syntax.declarations.Initializer.{Initializer}
@@ -17,7 +17,7 @@ use Rattle.c_types.specs.InitializerSteps.{excess}
 module _ (is_global : Bool) (vs : List CInitial) (s : CScene) (line : ℕ) (t : CType) (i : ℕ) (x : InitializerTree) (xs : InitializerTrees) where
   pub too_many : None ≡ part_type s.structs t i → initials is_global vs s line t i (InitializerTrees.more x xs) ≡ excess s line (InitializerTrees.more x xs)
   too_many h =
-      sym (ap (λ (o : Option CType). part_or_excess o (λ u. initial is_global s line u x) (λ v u. initials is_global (vs ++ v ∷ []) u line t (suc i) xs) (looked_at s x >>= λ u. all_looked_at u xs) line) h)
+      sym (ap (λ (o : Option CType). part_or_excess o (λ u. initial is_global s line u x) (λ v u. initials is_global (vs ++ v ∷ []) u line t (suc i) xs) (looked_at s line x >>= λ u. all_looked_at u line xs) line) h)
 
 -- what is left of the parts is too many
 pub over : (is_global : Bool) (vs : List CInitial) (s : CScene) (line : ℕ) (t : CType) (i : ℕ) (parts rest : List Initializer) (total : Rule (List CInitial × CScene))

@@ -1,6 +1,6 @@
 -- How structs are laid out, member by member.
 use Rattle.std.proofs.Common.{◌≡◌, ℕ, ◌+◌, ◌<◌, ◌≤◌, List, [], ◌∷◌, length, refl, sym, ◌∙◌, ap, Bool, true, false, arith}
-use Rattle.std.specs.Prelude.{map, max, Result, Ok, Err, nat_lt, nat_le, slice_set}
+use Rattle.std.specs.Prelude.{map, max, Ok, Err, nat_lt, slice_set}
 use Rattle.c_typed.specs.TypedTree.{CStruct, CMember}
 use Rattle.c_typed.specs.TypedViews.{struct_of}
 use Rattle.c_typed.specs.declared.types.StructType.{StructType}

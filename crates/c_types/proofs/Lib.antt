@@ -12,3 +12,4 @@ pub mod Wholes
 pub mod Initials
 pub mod GivenCounts
 pub mod ForLoops
+pub mod Forms

@@ -8,6 +8,7 @@ use Rattle.c_typed.specs.declared.typed.InitialByte.TheVariants.{Byte}
 use Rattle.c_typed.specs.Types.{CType, is_array, is_struct}
 use Rattle.c_typed.specs.TypedTree.{CExpr, CInitial, CStruct}
 use Rattle.c_rules.specs.declared.error.TypeError.TheVariants.{BadType}
+use Rattle.c_rules.specs.Conversions.{decayed}
 use Rattle.c_rules.specs.Rule.{Rule, ◌>>=◌}
 use Rattle.c_types.specs.Scene.{CScene}
 use Rattle.c_types.specs.Expressions.{joined}
@@ -17,9 +18,13 @@ use Rattle.c_types.specs.Initializers.{all_looked_at, aggregate_from, value_from
 abbrev pub is_constant : List CStruct → CExpr → Bool
 is_constant structs e = is_some (value_bytes structs e)
 
+-- whether the form of an expression is allowed in a global, where an array is a pointer to its first element
+abbrev pub is_allowed : List CStruct → CExpr → Bool
+is_allowed structs e = is_constant structs (decayed e)
+
 -- parts that are too many
 abbrev pub excess : {A : Type 0} → CScene → ℕ → InitializerTrees → Rule A
-excess s line xs = all_looked_at s xs >>= λ u. Err (BadType line 20)
+excess s line xs = all_looked_at s line xs >>= λ u. Err (BadType line 20)
 
 abbrev pub is_text_array : CType → Bool
 is_text_array (CType.Array CType.Char n) = true

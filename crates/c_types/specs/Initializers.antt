@@ -15,7 +15,7 @@ use Rattle.c_typed.specs.TypedRules.{part_type}
 use Rattle.c_typed.specs.Sizes.{size_of, members_of}
 use Rattle.c_rules.specs.declared.error.TypeError.TheVariants.{BadType}
 use Rattle.c_rules.specs.Rule.{Rule, ◌>>=◌, refuse}
-use Rattle.c_rules.specs.Conversions.{given, is_void}
+use Rattle.c_rules.specs.Conversions.{decayed, given, is_void}
 use Rattle.c_rules.specs.Operators.{copied_from}
 use Rattle.c_rules.specs.Constants.{constant}
 use Rattle.c_types.specs.Scene.{CScene}
@@ -65,15 +65,15 @@ value_bytes structs e = bytes_by (type_of e) (constant structs e) (is_null_point
 abbrev pub allowed : (is_global : Bool) → List CStruct → ℕ → CExpr → Rule CExpr
 allowed is_global structs line e = refuse (is_global && not (is_some (value_bytes structs e))) (BadType line 21) (Ok e)
 
--- The expressions of an initializer whose shape does not fit.
+-- The expressions of an initializer whose shape does not fit, on the line. A void value is refused before the shape is.
 abbrev mutual
-  pub looked_at : CScene → InitializerTree → Rule CScene
-  looked_at s (InitializerTree.Expression e) = typed s e >>= λ x. Ok x.1
-  looked_at s (InitializerTree.Braced at parts) = all_looked_at s parts
+  pub looked_at : CScene → ℕ → InitializerTree → Rule CScene
+  looked_at s line (InitializerTree.Expression e) = typed s e >>= λ x. refuse (is_void (type_of x.0)) (BadType line 19) (Ok x.1)
+  looked_at s line (InitializerTree.Braced at parts) = all_looked_at s line parts
 
-  pub all_looked_at : CScene → InitializerTrees → Rule CScene
-  all_looked_at s InitializerTrees.none = Ok s
-  all_looked_at s (InitializerTrees.more x xs) = looked_at s x >>= λ u. all_looked_at u xs
+  pub all_looked_at : CScene → ℕ → InitializerTrees → Rule CScene
+  all_looked_at s line InitializerTrees.none = Ok s
+  all_looked_at s line (InitializerTrees.more x xs) = looked_at s line x >>= λ u. all_looked_at u line xs
 
 -- 6.7.9 p14: a string for an array of char: not in brackets
 abbrev pub string_of : CType → ExpressionTree → Option (At × List ℕ)
@@ -111,20 +111,21 @@ abbrev mutual
   initial is_global s line t (InitializerTree.Braced at parts) =
       if is_array t || is_struct t
       then (initials is_global [] s line t 0 parts >>= λ x. Ok (CInitial.Braces at (listed x.0), x.1))
-      else (all_looked_at s parts >>= λ u. Err (BadType line 20))
+      else (all_looked_at s line parts >>= λ u. Err (BadType line 20))
 
   -- The parts from part i on, behind those that are typed already. Those that are too many have no type.
   pub initials : (is_global : Bool) → List CInitial → CScene → ℕ → CType → ℕ → InitializerTrees → Rule (List CInitial × CScene)
   initials is_global vs s line t i InitializerTrees.none = Ok (vs, s)
   initials is_global vs s line t i (InitializerTrees.more x xs) =
       part_or_excess (part_type s.structs t i) (λ u. initial is_global s line u x)
-      (λ v u. initials is_global (vs ++ v ∷ []) u line t (suc i) xs) (looked_at s x >>= λ u. all_looked_at u xs) line
+      (λ v u. initials is_global (vs ++ v ∷ []) u line t (suc i) xs) (looked_at s line x >>= λ u. all_looked_at u line xs) line
 
--- 6.7.9 p13: a whole declared struct may also be copied from a place
+-- 6.7.9 p13: A whole declared struct may also be copied from a place. In a global the form of the expression is looked at
+-- first: a string or the name of an array is allowed there, though it is no struct.
 abbrev pub copied : (is_global : Bool) → ℕ → CType → CExpr × CScene → Rule (CInitial × CScene)
 copied is_global line t x =
     refuse (is_void (type_of x.0)) (BadType line 19)
-    (allowed is_global x.1.structs line x.0 >>= λ v. copied_from line t v >>= λ w. Ok (CInitial.Value w, x.1))
+    (allowed is_global x.1.structs line (decayed x.0) >>= λ v. copied_from line t x.0 >>= λ w. Ok (CInitial.Value w, x.1))
 
 abbrev pub struct_copied : (is_global : Bool) → CScene → ℕ → CType → InitializerTree → Rule (CInitial × CScene)
 struct_copied is_global s line t (InitializerTree.Expression e) = typed s e >>= λ x. copied is_global line t x

@@ -1,7 +1,7 @@
 -- Which locals `&` is applied to, found in one walk over a statement: a mark for each local.
-use Rattle.std.specs.Prelude.{ℕ, Bool, true, List, [], ◌∷◌, slice_set}
+use Rattle.std.specs.Prelude.{Bool, true, List, [], ◌∷◌, slice_set}
 use Rattle.c_words.specs.declared.operators.UnaryOperator.TheVariants.{Address}
-use Rattle.c_typed.specs.TypedTree.{CExpr, CForm, CInitial, CInitials, CInitializer, CDeclaration, CStart, CStmt, CStmts}
+use Rattle.c_typed.specs.TypedTree.{CExpr, CForm, CStmt}
 use Rattle.c_typed.specs.Walk.{walked, Sum, over_stmt}
 
 -- what marks become

@@ -1,5 +1,5 @@
 -- Parts of the typing of statements, as the functions that do them say it.
-use Rattle.std.specs.Prelude.{ℕ, Bool, false, not, Option, Some, None, Ok, List, [], ◌∷◌, ◌++◌, length, map}
+use Rattle.std.specs.Prelude.{ℕ, Bool, false, not, Option, Ok, List, ◌++◌, length, map}
 use Rattle.std.specs.Option.{option_map}
 use Rattle.c_words.specs.declared.place.At.{At}
 use Rattle.c_tree.specs.Syntax.{ExpressionTree, InitializerTree, ForStartTree}

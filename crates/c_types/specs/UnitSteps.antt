@@ -1,5 +1,5 @@
 -- Parts of the typing of a file, as the functions that do them say it.
-use Rattle.std.specs.Prelude.{◌≡◌, ℕ, nat_lt, nat_le, Bool, true, false, not, ◌&&◌, ◌||◌, cond, Result, Option, Some, None, Ok, Err, List, [], ◌∷◌, ◌++◌, length, map, reverse, replicate, slice_get, slice_set, is_some}
+use Rattle.std.specs.Prelude.{◌≡◌, ℕ, nat_lt, nat_le, Bool, true, false, not, ◌&&◌, ◌||◌, cond, Option, Some, None, Ok, List, [], ◌∷◌, ◌++◌, length, map, reverse, replicate, slice_get, slice_set, is_some}
 use Rattle.c_tree.specs.Syntax.{BlockTree}
 use Rattle.c_typed.specs.Types.{CType, is_array, is_struct}
 use Rattle.c_typed.specs.TypedTree.{CStruct, CLocal, CProgram}

@@ -144,6 +144,19 @@ pub fn is_constant(structs: &[StructType], e: &TypedExpr) -> bool
     constant(structs, e).is_some() || is_null_pointer(e) || pointed_object(e).is_some()
 }
 
+/// Whether the form of the expression is allowed in a global, where an array is a pointer to its first element.
+#[tactic(auto, unfolding(c_rules::specs::Conversions::decayed))]
+pub fn is_allowed(structs: &[StructType], e: &TypedExpr) -> bool
+    ensures { result ≡ steps.is_allowed (map struct_of structs.now) (expr_of e.now) }
+{
+    match &e.ty {
+        Ty::Array(_, _) => pointed_array(e).is_some(),
+        Ty::Void | Ty::Char | Ty::Int | Ty::Unsigned | Ty::Struct(_) | Ty::Pointer(_) => {
+            is_constant(structs, e)
+        }
+    }
+}
+
 /// The bytes of a number, the lowest first, or its lowest byte alone.
 fn number_bytes(alloc: Global, ty: &Ty, n: u32) -> Result<Vec<InitialByte>, AllocError>
     ensures { IfOk result (λ bytes. bytes.items ≡ spec.number_bytes (ty_of ty.now) n) }

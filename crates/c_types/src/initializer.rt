@@ -12,7 +12,7 @@ ghost use Rattle.c_types.specs.Initializers as spec;
 ghost use Rattle.c_types.specs.InitializerSteps as steps;
 
 use crate::expression::{expression, joined};
-use crate::initial_bytes::is_constant;
+use crate::initial_bytes::{is_allowed, is_constant};
 use crate::scene::Scene;
 use c_rules::assignments::copied_from;
 use c_rules::conversions::{given, is_array, is_struct, is_void};
@@ -39,28 +39,41 @@ fn allowed(
     Ok(e)
 }
 
-/// Types the expressions of an initializer whose shape does not fit.
+/// Types the expressions of an initializer whose shape does not fit. A void value is refused before the shape is.
 #[cycle(looked_at)]
 #[tactic(auto, using(c_tree::proofs::SyntaxViews::declaration_views))]
-fn looked_at(alloc: Global, scene: &mut Scene, initializer: &Initializer) -> Result<(), TypeError>
-    ensures { Gives (λ u. scene_of scene.new) result (spec.looked_at (scene_of scene.old) (initializer_tree initializer.now)) }
+fn looked_at(
+    alloc: Global,
+    scene: &mut Scene,
+    initializer: &Initializer,
+    line: u32,
+) -> Result<(), TypeError>
+    ensures { Gives (λ u. scene_of scene.new) result (spec.looked_at (scene_of scene.old) line (initializer_tree initializer.now)) }
 {
     match initializer {
         Initializer::Expression(e) => {
-            let _ = expression(alloc, scene, e)?;
+            let value = expression(alloc, scene, e)?;
+            if is_void(&value.ty) {
+                return Err(TypeError::BadType { line, rule: 19 });
+            }
             Ok(())
         }
-        Initializer::Braced { parts, .. } => all_looked_at(alloc, scene, parts),
+        Initializer::Braced { parts, .. } => all_looked_at(alloc, scene, parts, line),
     }
 }
 
 /// Types the expressions of such initializers.
 #[cycle(looked_at)]
-fn all_looked_at(alloc: Global, scene: &mut Scene, parts: &[Initializer]) -> Result<(), TypeError>
-    ensures { Gives (λ u. scene_of scene.new) result (spec.all_looked_at (scene_of scene.old) (initializer_trees parts.now)) }
+fn all_looked_at(
+    alloc: Global,
+    scene: &mut Scene,
+    parts: &[Initializer],
+    line: u32,
+) -> Result<(), TypeError>
+    ensures { Gives (λ u. scene_of scene.new) result (spec.all_looked_at (scene_of scene.old) line (initializer_trees parts.now)) }
 {
     for part in parts {
-        looked_at(alloc, scene, part)?;
+        looked_at(alloc, scene, part, line)?;
     }
     Ok(())
 }
@@ -218,7 +231,7 @@ fn excess(
 ) -> Result<Vec<TypedInitial>, TypeError>
     ensures { Runs (λ ps. map initial_of ps.items) (scene_of scene.new) result (steps.excess (scene_of scene.old) line (initializer_trees parts.now)) }
 {
-    all_looked_at(alloc, scene, parts)?;
+    all_looked_at(alloc, scene, parts, line)?;
     Err(TypeError::BadType { line, rule: 20 })
 }
 
@@ -242,7 +255,7 @@ fn initial(
                 let given = initials(alloc, scene, parts, is_global, line, ty)?;
                 return Ok(TypedInitial::Braces(*at, given));
             }
-            all_looked_at(alloc, scene, parts)?;
+            all_looked_at(alloc, scene, parts, line)?;
             Err(TypeError::BadType { line, rule: 20 })
         }
     }
@@ -287,8 +300,10 @@ fn copied(
     if is_void(&e.ty) {
         return Err(TypeError::BadType { line, rule: 19 });
     }
-    let value = allowed(is_global, scene.structs.as_slice(), line, e)?;
-    let value = copied_from(line, ty, value)?;
+    if is_global && !is_allowed(scene.structs.as_slice(), &e) {
+        return Err(TypeError::BadType { line, rule: 21 });
+    }
+    let value = copied_from(line, ty, e)?;
     Ok(TypedInitial::Value(value))
 }
 
