@@ -1,0 +1,65 @@
+-- A machine follows all calls of a program whose functions stand in its text.
+use Rattle.std.proofs.Common.{◌≡◌, ◌≢◌, ℕ, zero, suc, ◌≤◌, Bool, true, false, List, length, Some, sym, subst, arith}
+use Rattle.std.specs.Prelude.{nat_le, slice_get}
+use Rattle.std.proofs.lemmas.Bool.{ne_eqb}
+use Rattle.bb_words.specs.Answers.{Answer}
+use Rattle.bb_words.specs.declared.kinds.ReportKind.TheVariants as report
+use Rattle.size_table.specs.declared.memory_map.TheConstants.{MOST_CALLS}
+use Rattle.flat_code.specs.Code.{FSteps, FFunction}
+use Rattle.flat_code.specs.World.{FPoint, choose, Ending}
+use Rattle.flat_code.specs.Run.{no_calls, counted, library, defined, call_one, call_none, calls}
+use Rattle.flat_verify.specs.Items.{all_steps, items_of}
+use Rattle.select_runs.specs.Fits.{FitsFunction, params_of}
+use Rattle.select_runs.specs.Scene.{Scene, IsScene, after, Frame}
+use Rattle.select_runs.proofs.Agree.{Laws}
+use Rattle.select_runs.proofs.Reach.{GoesOn, control_of}
+use Rattle.select_runs.proofs.Calling.{IsCalled, CallComes, IsCallee, HasTime, CallsRun}
+use Rattle.select_runs.proofs.Functions.{FunctionAt}
+use Rattle.select_runs.proofs.Followed.{function_runs}
+
+-- a call where flat code is cut: the machine goes on
+cut_here : (s : Scene) (f : Frame) (number : ℕ) (args : List ℕ) (u : FPoint) (k : ℕ) → IsCalled s f number args u.world k → GoesOn s u 0 k
+cut_here s f number args u k called =
+    record { count = k; later = omega arith; running = called.at.running; said = called.agrees.said; control = control_of s f u.world (after s k) called.agrees; kept = called.kept }
+
+none_run : (s : Scene) (functions : List FFunction) → CallsRun s functions 0 no_calls
+none_run s functions = record { run = λ f number fn places args u k t is given callee time called. cut_here s f number args u k called }
+
+module _ (laws : Laws) (s : Scene) (scene : IsScene s) (functions : List FFunction) (m : ℕ)
+    (stand : (number : ℕ) (fn : FFunction) → slice_get functions number ≡ Some fn → FunctionAt s scene number fn)
+    (fit : (number : ℕ) (fn : FFunction) → slice_get functions number ≡ Some fn → FitsFunction (λ n. params_of (slice_get functions n)) number fn)
+    (items_are : (steps : FSteps) → all_steps 4 (items_of 4 steps) ≡ steps) where
+  values_fit : (number : ℕ) (fn : FFunction) → slice_get functions number ≡ Some fn → fn.values ≤ 255
+  values_fit number fn is = (fit number fn is).values
+
+  has_line : (number : ℕ) (fn : FFunction) → slice_get functions number ≡ Some fn → fn.line ≢ 0
+  has_line number fn is e = absurd (let x = (fit number fn is).line in let z : 1 ≤ 0 = omega (arith, e, x) in omega (arith, z))
+
+  -- no further calls may be nested
+  last_run : (f : Frame) (number : ℕ) (fn : FFunction) (places args : List ℕ) (u : FPoint) (k t : ℕ) → slice_get functions number ≡ Some fn → length args ≡ fn.params
+      → IsCallee f fn places → HasTime u.world k t → IsCalled s f number args u.world k → CallComes s f places u.words 0 k t (call_none 4 s.frames m functions (Some fn) number args u)
+  last_run f number fn places args u k t is given callee time called =
+      let some = ne_eqb fn.line 0 (has_line number fn is) in
+      subst (λ b. CallComes s f places u.words 0 k t (choose b (library 4 s.frames m fn args) (counted fn.line (λ v. Answer.Ends Ending.Cut v)) u)) (sym some)
+      (by_depth (nat_le MOST_CALLS u.world.depth)
+      (subst (λ b. CallComes s f places u.words 1 k t (choose b (library 4 s.frames m fn args) (counted fn.line (defined 4 s.frames m no_calls number fn args)) u)) some
+      (function_runs laws s scene functions m 0 no_calls (omega arith) (none_run s functions) values_fit items_are f number fn places args u k t (stand number fn is) (fit number fn is) given callee time called)))
+    where
+      by_depth : (deep : Bool) → CallComes s f places u.words 1 k t (choose deep (λ v. Answer.Ends (Ending.Reported report.Depth fn.line) v) (defined 4 s.frames m no_calls number fn args) u)
+          → CallComes s f places u.words 0 k t (choose deep (λ v. Answer.Ends (Ending.Reported report.Depth fn.line) v) (λ v. Answer.Ends Ending.Cut v) u)
+      by_depth true h = h
+      by_depth false h = cut_here s f number args u k called
+
+  -- calls with at most n nested are followed, and where flat code is cut, for at least n instructions
+  pub calls_run : (n : ℕ) → n ≤ m → CallsRun s functions n (calls 4 s.frames m functions n)
+  calls_run zero le = record {
+    run = λ f number fn places args u k t is given callee time called.
+        subst (λ o. CallComes s f places u.words 0 k t (call_none 4 s.frames m functions o number args u)) (sym is) (last_run f number fn places args u k t is given callee time called);
+  }
+  calls_run (suc n) le =
+      let less = calls_run n (omega (arith, le)) in
+      record {
+        run = λ f number fn places args u k t is given callee time called.
+            subst (λ o. CallComes s f places u.words (suc n) k t (call_one 4 s.frames m functions (calls 4 s.frames m functions n) o number args u)) (sym is)
+            (function_runs laws s scene functions m n (calls 4 s.frames m functions n) (omega (arith, le)) less values_fit items_are f number fn places args u k t (stand number fn is) (fit number fn is) given callee time called);
+      }

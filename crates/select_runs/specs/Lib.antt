@@ -1,0 +1,4 @@
+pub mod Frame
+pub mod Scene
+pub mod Fits
+pub mod Laws

@@ -1,0 +1,32 @@
+//! The laws of selected code that runs.
+ghost use Rattle.select_runs.specs.Frame.{StraightRuns};
+ghost use Rattle.select_runs.specs.Laws.{NumbersLand};
+
+/// Straight code that stands in a text is done in as many steps as it has instructions. It tells accesses to the control
+/// frame alone, and changes nothing but registers and that frame.
+pub fn straight_runs()
+    ensures { StraightRuns }
+{
+    rv_machine::laws::word_read_back();
+    rv_machine::laws::others_stay();
+    rv_machine::laws::core_stays();
+}
+
+/// A machine whose text is the selected code of a program of numbers lands for every bound on the turns and nested calls of
+/// flat code.
+pub fn numbers_land()
+    ensures { NumbersLand }
+{
+    straight_runs();
+    rv_machine::laws::steps_add();
+    rv_machine::laws::core_stays();
+    rv_select::laws::steps_lead();
+    flat_landing::laws::kept_more();
+    flat_landing::laws::shared_appends();
+    bb_watch::laws::events_append();
+    bb_watch::laws::events_happen();
+    bb_watch::laws::each_appends();
+    bb_watch::laws::open_appends();
+    flat_code::laws::tells_append();
+    flat_verify::laws::items_are_steps();
+}
