@@ -9,7 +9,7 @@ use Rattle.c_types.specs.Units.{is_main}
 use Rattle.c_types.specs.Examples.{SmallFiles, BrokenRules, AcceptedFiles}
 
 pub small_files : SmallFiles
-unfolding decayed as_number as_promoted as_pointer given call_rule measured_rule tested count_of array_of formed in_library object callee_named text value_bytes is_main
+unfolding decayed as_number as_promoted as_pointer given product shifted added subtracted ordered equated logical binary_rule referred element_of followed signed tested alternatives conditional_rule comma_rule cast_rule index_rule member_rule arrow_rule measured_rule measured_type copied_from reckoned shifted_in changed assign_rule call_rule count_of array_of formed in_library object callee_named text value_bytes is_main
 small_files = record {
   nothing = refl;
   unknown = refl;
@@ -25,6 +25,10 @@ small_files = record {
   params = refl;
   in_itself = refl;
   defined_twice = refl;
+  many_params = refl;
+  string_copied = refl;
+  void_excess = refl;
+  void_in_braces = refl;
 }
 
 pub broken_rules : BrokenRules
@@ -65,6 +69,10 @@ broken_rules = record {
 pub accepted_files : AcceptedFiles
 unfolding decayed as_number as_promoted as_pointer given product shifted added subtracted ordered equated logical binary_rule referred element_of followed signed tested alternatives conditional_rule comma_rule cast_rule index_rule member_rule arrow_rule measured_rule measured_type copied_from reckoned shifted_in changed assign_rule call_rule count_of array_of formed in_library object callee_named text value_bytes is_main
 accepted_files = record {
-  plain = refl;
+  forty_two = refl;
   many = refl;
+  minus_two = refl;
+  padded = refl;
+  in_memory = refl;
+  objects = refl;
 }

@@ -1,5 +1,5 @@
 -- Small files and what typing answers.
-use Rattle.std.specs.Prelude.{◌≡◌, ℕ, Bool, true, false, Option, Some, None, Ok, Err, List, [], ◌∷◌, codes}
+use Rattle.std.specs.Prelude.{◌≡◌, ℕ, Bool, true, false, Option, Some, None, Ok, Err, List, [], ◌∷◌, map, codes}
 use Rattle.c_words.specs.declared.place.At.{At}
 use Rattle.c_tree.specs.declared.syntax.specifiers.Specifier.{Specifier as SpecifierTree}
 use Rattle.c_tree.specs.declared.syntax.specifiers.Specifier.TheVariants as words
@@ -10,8 +10,10 @@ use Rattle.c_words.specs.declared.operators.BinaryOperator.{BinaryOperator}
 use Rattle.c_words.specs.declared.operators.BinaryOperator.TheVariants as two
 use Rattle.c_words.specs.declared.operators.AssignOperator.TheVariants as assign
 use Rattle.c_words.specs.declared.operators.StepOperator.TheVariants as step
-use Rattle.c_typed.specs.TypedTree.{CProgram}
-use Rattle.c_rules.specs.declared.error.TypeError.TheVariants.{Unknown, Twice, BadType, NoMain, TooLarge}
+use Rattle.c_typed.specs.declared.typed.InitialByte.{InitialByte}
+use Rattle.c_typed.specs.declared.typed.InitialByte.TheVariants.{Byte}
+use Rattle.c_typed.specs.TypedTree.{CFunction, CProgram}
+use Rattle.c_rules.specs.declared.error.TypeError.TheVariants.{Unknown, Twice, BadType, NoMain, TooLarge, TooManyParams}
 use Rattle.c_rules.specs.Rule.{Rule}
 use Rattle.c_types.specs.Units.{typed_unit}
 
@@ -64,7 +66,7 @@ local s d init = BlockItemTree.Declaration (record { at = on 1; specifier = s; d
 abbrev typing : List ExternalTree → Rule CProgram
 typing es = typed_unit (record { at = on 1; externals = es })
 
--- `void f(void)`, declared on a line
+-- `void f()`, declared on a line
 abbrev nothing_from : ℕ → List ℕ → ExternalTree
 nothing_from line f = ExternalTree.Declaration (on line) (HeadTree.Specifier (words.Void (on line))) (declares (function line f None) None ∷ [])
 
@@ -76,7 +78,7 @@ struct_s = ExternalTree.Declaration (on 1) (HeadTree.Struct (record { at = on 1;
 abbrev star : List ℕ → DeclaratorTree
 star p = DeclaratorTree.Named (on 1) 1 p []
 
--- `int *p; void *v; void f(void); struct s { int m; } s; int main(void) { e; }`, where `e` stands on line 5
+-- `int *p; void *v; void f(); struct s { int m; } s; int main(void) { e; }`, where `e` stands on line 5
 abbrev evaluating : ExpressionTree → Rule CProgram
 evaluating e =
     typed_unit (record {
@@ -104,6 +106,40 @@ calls f = ExpressionTree.Call (on 1) (name f) ExpressionTrees.none
 
 abbrev parameter : List ℕ → ParameterTree
 parameter x = record { at = on 1; specifier = int; declarator = ParameterDeclaratorTree.Named (on 1) 0 x [] }
+
+-- parts in braces
+abbrev braces : List ExpressionTree → InitializerTree
+braces es = InitializerTree.Braced (on 1) (parts es)
+  where
+    parts : List ExpressionTree → InitializerTrees
+    parts [] = InitializerTrees.none
+    parts (e ∷ es) = InitializerTrees.more (InitializerTree.Expression e) (parts es)
+
+-- `s d = init;` at file scope
+abbrev initialized : SpecifierTree → DeclaratorTree → InitializerTree → ExternalTree
+initialized s d init = ExternalTree.Declaration (on 1) (HeadTree.Specifier s) (declares d (Some init) ∷ [])
+
+abbrev string : List ℕ → ExpressionTree
+string bytes = ExpressionTree.Text (on 1) (bytes ∷ [])
+
+-- what the globals of an accepted file hold at first
+abbrev initials : Rule CProgram → List (List InitialByte)
+initials (Ok p) = map (λ g. g.initial) p.globals
+initials (Err e) = []
+
+-- which locals of its first function lie in memory
+abbrev blocks : Rule CProgram → List Bool
+blocks (Ok p) = of_first p.functions
+  where
+    of_first : List CFunction → List Bool
+    of_first [] = []
+    of_first (f ∷ fs) = map (λ l. l.is_block) f.locals
+blocks (Err e) = []
+
+-- its strings that are objects
+abbrev strings : Rule CProgram → List (List ℕ)
+strings (Ok p) = p.texts
+strings (Err e) = []
 
 pub record SmallFiles : Type 0 where
   pub nothing : typing [] ≡ Err NoMain
@@ -133,6 +169,15 @@ pub record SmallFiles : Type 0 where
   pub in_itself : typing (ExternalTree.Declaration (on 1) (HeadTree.Struct (record { at = on 1; tag = codes "s"; members = record { at = on 1; specifier = words.Struct (on 1) (codes "s"); declarators = plain 1 (codes "t") ∷ [] } ∷ [] })) [] ∷ []) ≡ Err (BadType 1 1)
   -- int f(void) { } int main(void) { return f(); } int f(void) { }
   pub defined_twice : typing (ExternalTree.Function (on 1) (HeadTree.Specifier int) (function 1 (codes "f") None) (BlockTree.block (on 1) BlockItemTrees.none) ∷ main (returns (calls (codes "f")) ∷ []) ∷ ExternalTree.Function (on 3) (HeadTree.Specifier int) (function 3 (codes "f") None) (BlockTree.block (on 3) BlockItemTrees.none) ∷ []) ≡ Err (Twice 3 (codes "f"))
+  -- int f(int a, int b, int c, int d, int e, int f, int g, int h, int i);
+  pub many_params : typing (global (function 1 (codes "f") (Some (ParametersTree.Listed (on 1) (parameter (codes "a") ∷ parameter (codes "b") ∷ parameter (codes "c") ∷ parameter (codes "d")
+      ∷ parameter (codes "e") ∷ parameter (codes "f") ∷ parameter (codes "g") ∷ parameter (codes "h") ∷ parameter (codes "i") ∷ [])))) ∷ []) ≡ Err (TooManyParams 1)
+  -- struct s { int m; } s; struct s g = "a";
+  pub string_copied : typing (struct_s ∷ initialized (words.Struct (on 1) (codes "s")) (plain 1 (codes "g")) (InitializerTree.Expression (string (codes "a"))) ∷ []) ≡ Err (BadType 1 23)
+  -- void f(); int main(void) { int a[1] = { 1, f() }; return 0; }
+  pub void_excess : typing (nothing_from 1 (codes "f") ∷ main (local int (array (codes "a") (Some (number 1))) (Some (braces (number 1 ∷ calls (codes "f") ∷ []))) ∷ returns (number 0) ∷ []) ∷ []) ≡ Err (BadType 1 19)
+  -- void f(); int x = { f() };
+  pub void_in_braces : typing (nothing_from 1 (codes "f") ∷ initialized int (plain 1 (codes "x")) (braces (calls (codes "f") ∷ [])) ∷ []) ≡ Err (BadType 1 19)
 
 -- For each rule a file that breaks it.
 pub record BrokenRules : Type 0 where
@@ -186,7 +231,26 @@ pub record BrokenRules : Type 0 where
 -- Files that are accepted, and what they become.
 pub record AcceptedFiles : Type 0 where
   -- int main(void) { return 42; }
-  pub plain : is_accepted (typing (main (returns (number 42) ∷ []) ∷ [])) ≡ true
+  pub forty_two : is_accepted (typing (main (returns (number 42) ∷ []) ∷ [])) ≡ true
   -- f(), p = 0, s = s, v = p, p[1]++
   pub many : is_accepted (evaluating (ExpressionTree.Comma (on 5) (sets (name (codes "p")) (number 0)) (ExpressionTree.Comma (on 5) (sets (name (codes "s")) (name (codes "s")))
       (ExpressionTree.Comma (on 5) (sets (name (codes "v")) (name (codes "p"))) (ExpressionTree.StepAfter (on 5) (ExpressionTree.Index (on 5) (name (codes "p")) (number 1)) step.Increment))))) ≡ true
+  -- int x = -2; int main(void) { return 0; }
+  pub minus_two : initials (typing (initialized int (plain 1 (codes "x")) (InitializerTree.Expression (ExpressionTree.Unary (on 1) one.Minus (number 2))) ∷ main (returns (number 0) ∷ []) ∷ []))
+      ≡ (Byte 254 ∷ Byte 255 ∷ Byte 255 ∷ Byte 255 ∷ []) ∷ []
+  -- struct s { char c; int i; } g = { 1, 2 }; int main(void) { return 0; }
+  pub padded : initials (typing (ExternalTree.Declaration (on 1) (HeadTree.Struct (record {
+    at = on 1;
+    tag = codes "s";
+    members = record { at = on 1; specifier = words.Char (on 1); declarators = plain 1 (codes "c") ∷ [] } ∷ record { at = on 1; specifier = int; declarators = plain 1 (codes "i") ∷ [] } ∷ [];
+  }))
+      (declares (plain 1 (codes "g")) (Some (braces (number 1 ∷ number 2 ∷ []))) ∷ []) ∷ main (returns (number 0) ∷ []) ∷ []))
+      ≡ (Byte 1 ∷ Byte 0 ∷ Byte 0 ∷ Byte 0 ∷ Byte 2 ∷ Byte 0 ∷ Byte 0 ∷ Byte 0 ∷ []) ∷ []
+  -- int main(void) { int a; int b; int c[sizeof &a]; return sizeof &b; }
+  pub in_memory : blocks (typing (main (local int (plain 1 (codes "a")) None ∷ local int (plain 1 (codes "b")) None
+      ∷ local int (array (codes "c") (Some (ExpressionTree.SizeofExpression (on 1) (ExpressionTree.Unary (on 1) one.Address (name (codes "a")))))) None
+      ∷ returns (ExpressionTree.SizeofExpression (on 1) (ExpressionTree.Unary (on 1) one.Address (name (codes "b")))) ∷ []) ∷ [])) ≡ false ∷ true ∷ true ∷ []
+  -- int main(void) { char a[sizeof "xy"]; char b[3] = "pq"; return sizeof "z" + "w"[0]; }
+  pub objects : strings (typing (main (local (words.Char (on 1)) (array (codes "a") (Some (ExpressionTree.SizeofExpression (on 1) (string (codes "xy"))))) None
+      ∷ local (words.Char (on 1)) (array (codes "b") (Some (number 3))) (Some (InitializerTree.Expression (string (codes "pq"))))
+      ∷ returns (ExpressionTree.Binary (on 1) (ExpressionTree.SizeofExpression (on 1) (string (codes "z"))) two.Add (ExpressionTree.Index (on 1) (string (codes "w")) (number 0))) ∷ []) ∷ [])) ≡ codes "z" ∷ codes "w" ∷ []
