@@ -1,4 +1,4 @@
-//! Tests of instructions, images, labels and the machine, apart from their crates, so that the proofs there are checked once.
+//! Tests of instructions, images and labels, apart from their crates, so that the proofs there are checked once.
 #![tactic(auto)]
 
 pub mod around;
@@ -8,5 +8,3 @@ mod code;
 mod images;
 #[cfg(test)]
 mod labels;
-#[cfg(test)]
-mod machine;
