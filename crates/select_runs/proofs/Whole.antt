@@ -230,4 +230,4 @@ module _ (laws : Laws) (s : Scene) (scene : IsScene s) where
 -- the law of whole programs
 pub numbers_land : Laws → ((steps : FSteps) → all_steps 4 (items_of 4 steps) ≡ steps) → NumbersLand
 numbers_land laws items_are s code p globals input st m =
-    lands laws s p.scene code globals input p.fits.main p.end m p.parts p.labels p.frames p.fits.functions p.fits.main_is p.fits.no_params items_are st
+    lands laws s p.scene code globals input p.fits.first.main p.end m p.parts p.labels p.frames p.fits.functions p.fits.first.main_is p.fits.first.no_params items_are st

@@ -52,9 +52,17 @@ pub record FitsFunction (params : ℕ → Option ℕ) (number : ℕ) (f : FFunct
   pub number_is : number < 2 ^ 32
   pub items : FitItems f.values params 0 (items_of 4 f.body)
 
--- A program of numbers: its functions fit, and the one that is called first has no parameters.
-pub record FitsProgram (code : FCode) : Type 0 where
-  pub functions : (number : ℕ) (f : FFunction) → slice_get code.functions number ≡ Some f → FitsFunction (λ n. params_of (slice_get code.functions n)) number f
+-- each function of the code is one of numbers
+abbrev pub FunctionsFit : FCode → Type 0
+FunctionsFit code = (number : ℕ) (f : FFunction) → slice_get code.functions number ≡ Some f → FitsFunction (λ n. params_of (slice_get code.functions n)) number f
+
+-- The first function that is called is there, and has no parameters.
+pub record HasMain (code : FCode) : Type 0 where
   pub main : FFunction
   pub main_is : slice_get code.functions code.main ≡ Some main
   pub no_params : main.params ≡ 0
+
+-- the code of a program of numbers
+pub record FitsProgram (code : FCode) : Type 0 where
+  pub functions : FunctionsFit code
+  pub first : HasMain code
