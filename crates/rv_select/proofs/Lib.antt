@@ -1,4 +1,7 @@
 pub mod Emitted
+mod Encodable
 pub mod Labels
 pub mod Leading
+mod Resolvable
 pub mod Sizes
+mod Sound
