@@ -10,7 +10,7 @@ ghost use Rattle.c_typing.specs.Units as spec;
 ghost use Rattle.c_typing.specs.UnitSteps.{file_of};
 ghost use Rattle.c_typing.specs.UnitSteps as steps;
 
-use crate::declarations::split_off;
+use crate::declarations::{Declares, split_off};
 use crate::file::File;
 use crate::functions::{Role, declared_function};
 use crate::objects::object_is_taken;
