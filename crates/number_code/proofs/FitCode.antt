@@ -1,6 +1,6 @@
 -- The flat code of steps that work on numbers alone, and are in range, is code that the selection is proved for.
-use Rattle.std.specs.Prelude.{◌&&◌, All, slice_get, slice_index_or}
-use Rattle.std.proofs.Common.{◌≡◌, ℕ, zero, suc, ◌+◌, ◌<◌, ◌≤◌, Bool, true, false, List, [], ◌∷◌, length, Option, Some, refl, sym, arith}
+use Rattle.std.specs.Prelude.{All}
+use Rattle.std.proofs.Common.{◌≡◌, ℕ, suc, ◌+◌, ◌<◌, ◌≤◌, true, List, [], ◌∷◌, length, Option, Some, refl, sym, arith}
 use Rattle.std.proofs.lemmas.Bool.{true≢false, and_parts}
 use Rattle.std.proofs.lemmas.List.Elements.{All-head, All-tail}
 use Rattle.c_typed.specs.declared.typed_expr.LibCall.{LibCall}
@@ -8,7 +8,7 @@ use Rattle.c_typed.specs.declared.typed_expr.LibCall.TheVariants as lib
 use Rattle.mid_code.specs.Code.{Step, Steps, Function, Program}
 use Rattle.mid_code.specs.Code.Steps.{stop, step as next}
 use Rattle.mid_code.specs.Formed.{IsCallOf, IsInRange, AreInRange}
-use Rattle.flat_code.specs.Code.{FStep, FSteps, none, more, ◌+++◌}
+use Rattle.flat_code.specs.Code.{FSteps, none, more, ◌+++◌}
 use Rattle.flat_verify.specs.Laws.{ArePlainly}
 use Rattle.lowering.specs.Built.{is_of_numbers}
 use Rattle.bounds_instr.specs.Code.{first_of, library_code, step_code, code}

@@ -10,7 +10,6 @@ use Rattle.c_typed.specs.Typed.{Typed}
 use Rattle.mid_code.specs.Code.{Function, Program}
 use Rattle.mid_code.specs.Kinds.{Signature}
 use Rattle.mid_code.specs.Formed.{IsCallOf, IsFunction, AreFunctions, Formed}
-use Rattle.flat_code.specs.Code.{FFunction}
 use Rattle.flat_verify.specs.Laws.{PlainItemsAreRead}
 use Rattle.bounds_instr.specs.Built.{is_none}
 use Rattle.lowering.specs.Lower as lower

@@ -1,5 +1,5 @@
 -- The laws of the code of programs of numbers, from the typed tree to flat code.
-use Rattle.std.specs.Prelude.{◌≡◌, ℕ, true, List, [], length, replicate, Some, slice_get}
+use Rattle.std.specs.Prelude.{◌≡◌, ℕ, true, [], length, replicate, Some, slice_get}
 use Rattle.c_typed.specs.TypedTree.{CProgram}
 use Rattle.c_typed.specs.Typed.{Typed}
 use Rattle.mid_code.specs.Code.{Program}
