@@ -107,14 +107,13 @@ module _ (laws : MadeLaws) (p : CProgram) (image : Image) (typed : Typed p) (bui
   of_code = record {
     rules = made.rules;
     bytes = subst (All IsByte) (sym made.initial) tt;
-    slot = refl;
     resolved = made.resolved;
     entry = made.entry;
     initial = λ i. ap (λ bytes. slice_index bytes i) made.initial;
     frames = λ i less.
         ap (λ frames. slice_get frames i) made.frames
         ∙ replicated [] (length (lowered p).functions) i (let n = length-map (lowered p).functions (function_code 4) in omega (arith, less, n));
-    fits = record { functions = laws.fits p typed built formed; main = (laws.main 4 p typed).main; main_is = (laws.main 4 p typed).main_is; no_params = (laws.main 4 p typed).no_params };
+    fits = record { functions = laws.fits p typed built formed; first = laws.main 4 p typed };
   }
 
   runs : (input : List ℕ) → All IsByte input →

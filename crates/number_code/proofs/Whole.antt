@@ -15,8 +15,8 @@ use Rattle.bounds_instr.specs.Built.{is_none}
 use Rattle.lowering.specs.Lower as lower
 use Rattle.lowering.specs.Lower.{lowered}
 use Rattle.bounds_instr.specs.Code.{code, function_code, instrumented}
-use Rattle.select_runs.specs.Fits.{FitItems, FitsFunction, params_of}
-use Rattle.number_code.specs.Laws.{FunctionsFit, HasMain, CodeFits}
+use Rattle.select_runs.specs.Fits.{FunctionsFit, HasMain, FitItems, FitsFunction, params_of}
+use Rattle.number_code.specs.Laws.{CodeFits}
 use Rattle.number_code.proofs.OfNumbers.{functions_of_numbers, body_of}
 use Rattle.number_code.proofs.CodeNumbers.{code_numbers}
 use Rattle.number_code.proofs.FlatItems.{plain_is_read}

@@ -1,36 +1,25 @@
 -- The laws of the code of programs of numbers, from the typed tree to flat code.
-use Rattle.std.specs.Prelude.{◌≡◌, ℕ, true, [], length, replicate, Some, slice_get}
+use Rattle.std.specs.Prelude.{◌≡◌, ℕ, true, [], length, replicate}
 use Rattle.c_typed.specs.TypedTree.{CProgram}
 use Rattle.c_typed.specs.Typed.{Typed}
 use Rattle.mid_code.specs.Code.{Program}
 use Rattle.mid_code.specs.Formed.{Formed}
-use Rattle.flat_code.specs.Code.{FFunction, FCode}
 use Rattle.lowering.specs.Built as lowering
 use Rattle.lowering.specs.Lower.{lowered}
 use Rattle.bounds_instr.specs.Built as instr
 use Rattle.bounds_instr.specs.Code.{instrumented, global_blocks, frames_of}
-use Rattle.select_runs.specs.Fits.{FitsFunction, params_of}
+use Rattle.select_runs.specs.Fits.{FunctionsFit, HasMain}
 
 -- The mid code of a program of numbers is built: where there is mid code, there is flat code.
 abbrev pub CodeIsBuilt : Type 0
 CodeIsBuilt = (p : CProgram) → lowering.IsBuilt p → (instr.is_built (lowered p) ≡ true) × instr.IsBuilt (lowered p)
 
--- each function of the code is one of numbers, as the selection of instructions follows them
-abbrev pub FunctionsFit : FCode → Type 0
-FunctionsFit code = (number : ℕ) (f : FFunction) → slice_get code.functions number ≡ Some f → FitsFunction (λ n. params_of (slice_get code.functions n)) number f
-
--- The flat code of a typed program of numbers, for slots of 16 bytes, has only such functions, where its mid code is well
--- formed.
+-- The functions of the flat code of a typed program of numbers, for slots of 16 bytes, are those that the selection of
+-- instructions is proved for, where its mid code is well formed.
 abbrev pub CodeFits : Type 0
 CodeFits = (p : CProgram) → Typed p → lowering.IsBuilt p → Formed (lowered p) → FunctionsFit (instrumented 4 (lowered p))
 
 -- The first function that is called is there, and has no parameters.
-pub record HasMain (code : FCode) : Type 0 where
-  pub main : FFunction
-  pub main_is : slice_get code.functions code.main ≡ Some main
-  pub no_params : main.params ≡ 0
-
--- The flat code of a typed program has such a function.
 abbrev pub MainFits : Type 0
 MainFits = (g : ℕ) (p : CProgram) → Typed p → HasMain (instrumented g (lowered p))
 
