@@ -18,11 +18,11 @@ use std::alloc::{AllocError, Global};
 /// The parts of a program. The start code comes first.
 ///
 /// Each value is a word of the control frame of its call. A sequence that checks a pointer is selected as one whole.
-pub fn select(alloc: Global, verified: &Verified) -> Result<Labelled, AllocError>
-    ensures parts { IfOk result (λ labelled. labelled.parts ≡ selected verified.now.exponent (code_of verified.now.code.now)) }
+pub fn select(alloc: Global, verified: Verified<'_>) -> Result<Labelled, AllocError>
+    ensures parts { IfOk result (λ labelled. labelled.parts ≡ selected verified.entry.exponent (code_of verified.entry.code.now)) }
     // They can be resolved, if the code weighs no more than a text has room for.
-    ensures resolvable { weight verified.now.exponent (code_of verified.now.code.now) ≤ 2093056 → IfOk result (λ labelled. AreParts labelled.parts) }
-    ensures words { HasWords (code_of verified.now.code.now) }
+    ensures resolvable { weight verified.entry.exponent (code_of verified.entry.code.now) ≤ 2093056 → IfOk result (λ labelled. AreParts labelled.parts) }
+    ensures words { HasWords (code_of verified.entry.code.now) }
 {
     parts_are_resolvable();
     numbers_are_words(verified.code);

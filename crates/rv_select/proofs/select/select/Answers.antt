@@ -6,6 +6,6 @@ use Rattle.rv_select.proofs.select.select.Goals as goal
 
 pub returns-clause-resolvable : goal.returns-clause-resolvable
 returns-clause-resolvable c = λ room.
-    let v = c.args.verified.now in
+    let v = c.args.verified in
     subst AreParts (sym (c.from_vec.ensures ∙ c.in_ok-parts.ensures))
     (c.parts_are_resolvable.ensures v.exponent (blocks_of v.layout.now) (code_of v.code.now) v.least v.most v.disciplined c.numbers_are_words.ensures room)
