@@ -1,5 +1,5 @@
 -- The fields of the instructions that are selected fit, where the numbers of values are below 256 and other numbers are words.
-use Rattle.std.proofs.Common.{◌≡◌, ◌==◌, ℕ, zero, suc, ◌+◌, ◌-◌, ◌%◌, ◌^◌, ◌<◌, ◌≤◌, Bool, true, false, ◌&&◌, ◌||◌, min, if◌then◌else◌, List, [], ◌∷◌, ◌++◌, Option, None, Some, refl, arith, lit<, eqb-true, ltb-true}
+use Rattle.std.proofs.Common.{◌≡◌, ◌==◌, ℕ, ◌+◌, ◌-◌, ◌%◌, ◌^◌, ◌<◌, ◌≤◌, Bool, true, false, ◌&&◌, ◌||◌, if◌then◌else◌, List, [], ◌∷◌, ◌++◌, Option, None, Some, refl, arith, lit<, eqb-true, ltb-true}
 use Rattle.std.specs.Prelude.{nat_lt, nat_le}
 use Rattle.std.specs.List.{AllByRecursion}
 use Rattle.std.proofs.lemmas.Bool.Decides.{nat_tests}
@@ -9,14 +9,13 @@ use Rattle.bb_words.specs.declared.steps.ArithOp.{ArithOp}
 use Rattle.bb_words.specs.declared.steps.ArithOp.TheVariants as op
 use Rattle.bb_words.specs.declared.steps.Width.{Width}
 use Rattle.bb_words.specs.declared.steps.Width.TheVariants as width
-use Rattle.marked_ptr.specs.Marked.{half_slot}
 use Rattle.rv_asm.specs.Text.{upper_part, lower_part}
-use Rattle.rv_code.specs.Bits.{extended, IsSigned}
+use Rattle.rv_code.specs.Bits.{IsSigned}
 use Rattle.rv_code.specs.Formats.{Format, RType, IType, SType, BType, UType, JType, PlainType, FitsFormat}
 use Rattle.rv_code.specs.Code.{Fits, format_of}
 use Rattle.rv_code.specs.declared.instr.Instr.{Instr}
 use Rattle.rv_code.specs.declared.instr.Instr.TheVariants.{Lui, Addi, Andi, Slli, Srli, Add, Sub, And, Lbu, Ecall}
-use Rattle.rv_select.specs.Layout.{cell, frame_bytes, negative, load, store, constant, is_short}
+use Rattle.rv_select.specs.Layout.{cell, load, store, constant, is_short}
 use Rattle.rv_select.specs.Steps.{fetch, operation, owner_code, look_code, read_code, write_code, kind_number, call_code, report_code, environment_arguments, number_code, same_code, arith_code, slot_code, looked_code, frame_code, loading_code, storing_code, checked_code, line_code, environment_code, arguments_code}
 
 -- ---- Lists of instructions
@@ -167,9 +166,9 @@ operation_fits op.AtMostUnsigned = tested (operation op.AtMostUnsigned) refl
 pub owner_fits : (g : ℕ) → g ≤ 24 → AllFit (owner_code g)
 owner_fits g most =
     fit_join (tested (Srli 6 5 31 ∷ Sub 6 0 6 ∷ Slli 7 5 1 ∷ Srli 7 7 1 ∷ []) refl)
-        (fit_join (one_fits (Srli 12 7 (g - 2)) (omega (arith, most), lit< tt, lit< tt))
-            (fit_join (tested (Andi 12 12 2 ∷ Addi 12 12 0xffff_ffff ∷ And 12 12 6 ∷ []) refl)
-                (fit_join (one_fits (Srli 7 7 g) (omega (arith, most), lit< tt, lit< tt)) (tested (Add 7 7 12 ∷ []) refl))))
+    (fit_join (one_fits (Srli 12 7 (g - 2)) (omega (arith, most), lit< tt, lit< tt))
+    (fit_join (tested (Andi 12 12 2 ∷ Addi 12 12 0xffff_ffff ∷ And 12 12 6 ∷ []) refl)
+    (fit_join (one_fits (Srli 7 7 g) (omega (arith, most), lit< tt, lit< tt)) (tested (Add 7 7 12 ∷ []) refl))))
 
 pub look_fits : (r slot : ℕ) → r < 32 → slot < 32 → AllFit (look_code r slot)
 look_fits r slot a b = fit_join (one_fits (Add 31 26 slot) (b, lit< tt, lit< tt)) (one_fits (Lbu r 31 0) (low_signed 0 (lit< tt), lit< tt, a))

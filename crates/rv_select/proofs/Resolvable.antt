@@ -1,31 +1,30 @@
 -- The parts that are selected for disciplined code can be resolved: their fields fit, and each goes to a label that is there.
-use Rattle.std.proofs.Common.{◌≡◌, ◌==◌, ℕ, zero, suc, ◌+◌, ◌-◌, ◌*◌, ◌/◌, ◌%◌, ◌^◌, ◌<◌, ◌≤◌, ◌⊎◌, inl, inr, Bool, true, false, ◌&&◌, ◌||◌, not, min, if◌then◌else◌, List, [], ◌∷◌, ◌++◌, length, Option, None, Some, refl, sym, ap, ◌∙◌, subst, arith, lit<, lit≤, ltb-true, leb-true}
-use Rattle.std.specs.Prelude.{nat_lt, nat_le, slice_get, All}
+use Rattle.std.proofs.Common.{◌≡◌, ◌==◌, ℕ, zero, suc, ◌+◌, ◌-◌, ◌*◌, ◌/◌, ◌%◌, ◌^◌, ◌<◌, ◌≤◌, inl, inr, Bool, true, false, ◌&&◌, min, if◌then◌else◌, List, [], ◌∷◌, ◌++◌, length, Option, None, Some, refl, ◌∙◌, subst, arith, lit<, lit≤, leb-true}
+use Rattle.std.specs.Prelude.{nat_lt, nat_le, slice_get}
 use Rattle.std.specs.List.{AllByRecursion}
 use Rattle.std.proofs.lemmas.List.Elements.{All-from_recursion}
-use Rattle.std.proofs.lemmas.Option.{none-some, same_Some, slice_get_within}
+use Rattle.std.proofs.lemmas.Option.{slice_get_within}
 use Rattle.size_table.specs.Blocks.{Block}
 use Rattle.size_table.specs.declared.memory_map.TheConstants.{TABLE_START, HEAP_START}
 use Rattle.flat_code.specs.Code.{FStep, FSteps, FFunction, FCode}
-use Rattle.flat_code.specs.Recognized.{Sequence, sequence_steps, sequence_at, further}
-use Rattle.flat_code.specs.Weight.{weight, functions_size}
-use Rattle.flat_verify.specs.Items.{Item, Items, item_or, item_of, items_from, items_of, places, all_places, step_places, steps_places}
+use Rattle.flat_code.specs.Recognized.{Sequence, sequence_at, further}
+use Rattle.flat_code.specs.Weight.{functions_size}
+use Rattle.flat_verify.specs.Items.{Item, Items, item_or, item_of, items_from, items_of, places, all_places}
 use Rattle.flat_verify.specs.Facts.{Fact, Setting}
-use Rattle.flat_verify.specs.Breaks.{fits, is_plain, is_count, address, reads, operands, Breaks, BreaksAll, AddressLost, ReadLost}
-use Rattle.flat_verify.specs.Discipline.{setting_in, setting, LostAt, params_in, values_in, most_values, most_params, library_fits, main_fits, function_fits, BreaksBy, BreaksAt, IsDisciplined}
+use Rattle.flat_verify.specs.Breaks.{fits, is_plain, is_count, Breaks, BreaksAll}
+use Rattle.flat_verify.specs.Discipline.{setting_in, LostAt, params_in, most_values, most_params, library_fits, main_fits, function_fits, BreaksBy, IsDisciplined}
 use Rattle.rv_asm.specs.declared.parts.BranchOp.TheVariants as branch
 use Rattle.rv_asm.specs.declared.parts.Part.{Part}
 use Rattle.rv_asm.specs.declared.parts.Part.TheVariants.{Plain, Label, Branch, Jump}
-use Rattle.rv_asm.specs.Parts.{times_in, FitsPart, GoesOnce, AreParts}
-use Rattle.rv_code.specs.declared.instr.Instr.{Instr}
-use Rattle.rv_code.specs.declared.instr.Instr.TheVariants.{Lui, Addi, Jalr, Sw, Lw, Ecall}
-use Rattle.rv_select.specs.Layout.{cell, frame_bytes, negative, load, store, constant}
-use Rattle.rv_select.specs.Steps.{plains, fetch, call_code, step_parts}
-use Rattle.rv_select.specs.Checks.{sequence_parts, sequence_labels}
+use Rattle.rv_asm.specs.Parts.{times_in, FitsPart, GoesOnce}
+use Rattle.rv_code.specs.declared.instr.Instr.TheVariants.{Lui, Addi, Jalr}
+use Rattle.rv_select.specs.Layout.{cell, frame_bytes, negative, constant}
+use Rattle.rv_select.specs.Steps.{call_code, step_parts}
+use Rattle.rv_select.specs.Checks.{sequence_labels}
 use Rattle.rv_select.specs.Selection.{choice_parts, is_end, loop_parts, item_labels, items_labels, held_behind, item_parts, items_parts, zeros, zero_loop, zero_loop_if, parameters, parameters_code, parameters_if, frame_parts, enter_code, leave_code, return_code, function_parts, function_labels, functions_labels, functions_parts, start_parts, selected}
-use Rattle.rv_select.specs.Words.{StepHasWords, HaveWords, FunctionHasWords, HasWords}
-use Rattle.rv_select.specs.Laws.{among, PartsAreResolvable}
-use Rattle.rv_select.proofs.Encodable.{AllFit, none_fits, one_fits, fit_join, both, tested, loaded, stored, fetch_fits, constant_fits, call_fits, store_fits}
+use Rattle.rv_select.specs.Words.{StepHasWords, HaveWords, FunctionHasWords}
+use Rattle.rv_select.specs.Laws.{PartsAreResolvable}
+use Rattle.rv_select.proofs.Encodable.{AllFit, none_fits, one_fits, fit_join, both, tested, loaded, stored, fetch_fits, constant_fits, call_fits}
 use Rattle.rv_select.proofs.Labels.{among_in, once}
 use Rattle.rv_select.proofs.Sizes.{light}
 use Rattle.rv_select.proofs.Sound.{Sound, AreSound, AreBelow, not_false, joined, plain, no_parts, label, branch_to, jump_to, small, step_sound, sequence_sound}
@@ -72,8 +71,8 @@ module _ (s : Setting) (few : s.values ≤ 255) (total : ℕ) (callable : (f n :
         let r2 : n + 2 + k + items_labels (items_from g 0 y) ≤ total = omega (arith, room) in
         let r3 : n + 2 ≤ total = omega (arith, room) in
         joined total (plain total (fetch_fits known cond c))
-            (choice_sound total (is_end first) (is_end (items_from g 0 y)) n _ _ r3 (items_sound x 0 None exits (n + 2) (p + 1) (λ q b. h q (inr (inl b))) w.0 below r1)
-                (items_sound y 0 None exits (n + 2 + k) (p + 1 + all_places g first) (λ q b. h q (inr (inr b))) w.1 below r2))
+        (choice_sound total (is_end first) (is_end (items_from g 0 y)) n _ _ r3 (items_sound x 0 None exits (n + 2) (p + 1) (λ q b. h q (inr (inl b))) w.0 below r1)
+        (items_sound y 0 None exits (n + 2 + k) (p + 1 + all_places g first) (λ q b. h q (inr (inr b))) w.1 below r2))
     item_sound (FStep.Block x) known exits n p h w below room =
         let r0 : n < total = omega (arith, room) in
         let r1 : n + 1 + items_labels (items_from g 0 x) ≤ total = omega (arith, room) in
@@ -114,7 +113,7 @@ module _ (s : Setting) (few : s.values ≤ 255) (total : ℕ) (callable : (f n :
             let r0 : n + sequence_labels q ≤ total = omega (arith, r) in
             let r1 : n + sequence_labels q + items_labels (items_from g skip rest) ≤ total = omega (arith, r) in
             joined total (sequence_sound s few total callable g least most q (L p) (length exits) p n (λ x c. b x (inl (inr c))) r0)
-                (more skip None (n + sequence_labels q) (p + places g (Item.Checks q)) (λ x c. b x (inr c)) r1)
+            (more skip None (n + sequence_labels q) (p + places g (Item.Checks q)) (λ x c. b x (inr c)) r1)
 
 -- ---- Functions
 
@@ -159,7 +158,7 @@ module _ (total : ℕ) where
       by false =
           let bytes : (32 * turns) % 2 ^ 32 ≤ 2048 = omega (arith, few) in
           joined total (joined total (joined total (plain total (down_fits 6 ((32 * turns) % 2 ^ 32) (lit< tt) bytes)) (label total n)) (joined total (plain total (down_fits 2 32 (lit< tt) (lit≤ tt))) (plain total (zeros_fit 8 0 (lit≤ tt)))))
-              (branch_to total branch.Bne 2 6 n (lit< tt) (lit< tt) lt)
+          (branch_to total branch.Bne 2 6 n (lit< tt) (lit< tt) lt)
 
   frame_sound : (n params values : ℕ) → values ≤ 255 → params ≤ 8 → n < total → AreSound total (frame_parts n params values)
   frame_sound n params values few small_params lt =
@@ -169,7 +168,7 @@ module _ (total : ℕ) where
       let zeroed : 0 + others % 8 ≤ 256 = omega arith in
       let turns : others / 8 ≤ 31 = omega (arith, few) in
       joined total (joined total (joined total (plain total (fit_join (down_fits 2 (frame_bytes (others % 8)) (lit< tt) bytes) (stored 1 (others % 8) (lit< tt) behind))) (plain total (zeros_fit (others % 8) 0 zeroed)))
-          (zero_loop_sound n (others / 8) turns lt)) (plain total (parameters_if_fit params small_params))
+      (zero_loop_sound n (others / 8) turns lt)) (plain total (parameters_if_fit params small_params))
 
 enter_fits : (k line : ℕ) → k < 2 ^ 32 → line < 2 ^ 32 → AllFit (enter_code k line)
 enter_fits k line a b = by (line == 0)
@@ -211,8 +210,8 @@ module _ (g : ℕ) (least : 1 ≤ g) (most : g ≤ 24) (globals : List Block) (f
       let r2 : n + 2 + items_labels (items_of g f.body) ≤ total = omega (arith, labels) in
       let s = setting_in globals functions (Some f) in
       joined total (joined total (joined total (joined total (label total k) (plain total (enter_fits k f.line number w.0))) (frame_sound total (n + 1) f.params f.values kept.values kept.params r1))
-          (items_sound s kept.values total (callable functions total room) g least most (LostAt g globals functions k) n r0 f.body 0 None [] (n + 2) 0 kept.body w.1 (record { each = tt }) r2))
-          (joined total (joined total (plain total (tested (Addi 9 0 0 ∷ []) refl)) (label total n)) (plain total (return_fits k f.line f.values number kept.values)))
+      (items_sound s kept.values total (callable functions total room) g least most (LostAt g globals functions k) n r0 f.body 0 None [] (n + 2) 0 kept.body w.1 (record { each = tt }) r2))
+      (joined total (joined total (plain total (tested (Addi 9 0 0 ∷ []) refl)) (label total n)) (plain total (return_fits k f.line f.values number kept.values)))
 
   functions_sound : (fs : List FFunction) (k n : ℕ) → ((i : ℕ) (f : FFunction) → slice_get fs i ≡ Some f → IsKept g globals functions (k + i) f) → AllByRecursion FunctionHasWords fs → k + length fs ≤ 2 ^ 32
       → n + functions_labels g fs ≤ total → AreSound total (functions_parts g k n fs)
@@ -225,7 +224,7 @@ module _ (g : ℕ) (least : 1 ≤ g) (most : g ≤ 24) (globals : List Block) (f
       let r0 : n + function_labels g f ≤ total = omega (arith, labels) in
       let r1 : n + function_labels g f + functions_labels g fs ≤ total = omega (arith, labels) in
       joined total (function_sound k n f own w.0 number r0)
-          (functions_sound fs (k + 1) (n + function_labels g f) (λ i x is. let e : k + suc i ≡ k + 1 + i = omega arith in subst (λ j. IsKept g globals functions j x) e (kept (suc i) x is)) w.1 few_more r1)
+      (functions_sound fs (k + 1) (n + function_labels g f) (λ i x is. let e : k + suc i ≡ k + 1 + i = omega arith in subst (λ j. IsKept g globals functions j x) e (kept (suc i) x is)) w.1 few_more r1)
 
 -- ---- The program
 

@@ -1,13 +1,13 @@
 -- The parts of steps and of sequences whose numbers are in range: their fields fit, and each goes to a label below a number.
-use Rattle.std.proofs.Common.{◌≡◌, ◌==◌, ℕ, zero, suc, ◌+◌, ◌-◌, ◌*◌, ◌/◌, ◌%◌, ◌^◌, ◌<◌, ◌≤◌, ◌⊎◌, inl, inr, Bool, true, false, ◌&&◌, min, if◌then◌else◌, List, [], ◌∷◌, ◌++◌, length, Option, None, Some, refl, sym, ap, ◌∙◌, subst, arith, lit<, ltb-true, leb-true}
-use Rattle.std.specs.Prelude.{nat_lt, nat_le, slice_get, slice_index}
+use Rattle.std.proofs.Common.{◌≡◌, ℕ, zero, suc, ◌+◌, ◌-◌, ◌^◌, ◌<◌, ◌≤◌, inl, inr, Bool, true, false, ◌&&◌, List, [], ◌∷◌, ◌++◌, length, Option, refl, arith, lit<, ltb-true, leb-true}
+use Rattle.std.specs.Prelude.{nat_lt, nat_le, slice_index}
 use Rattle.std.specs.List.{AllByRecursion}
 use Rattle.std.proofs.Math.Pow.{pow_mono}
-use Rattle.flat_code.specs.Code.{FStep, FSteps, FFunction, FCode}
-use Rattle.flat_code.specs.Recognized.{Sequence, sequence_steps, sequence_at, further}
-use Rattle.flat_verify.specs.Items.{Item, Items, item_or, item_of, items_from, items_of, places, all_places, step_places, steps_places}
+use Rattle.flat_code.specs.Code.{FStep, FSteps}
+use Rattle.flat_code.specs.Recognized.{Sequence, sequence_steps}
+use Rattle.flat_verify.specs.Items.{step_places, steps_places}
 use Rattle.flat_verify.specs.Facts.{Fact, Setting}
-use Rattle.flat_verify.specs.Breaks.{fits, is_plain, is_count, all_below, operands, Breaks, BreaksAll, InsideStep, Inside}
+use Rattle.flat_verify.specs.Breaks.{fits, is_count, all_below, operands, InsideStep, Inside}
 use Rattle.flat_verify.specs.Derivations.{FitStep, Fit}
 use Rattle.bb_words.specs.declared.kinds.ReportKind.{ReportKind}
 use Rattle.bb_words.specs.declared.kinds.ReportKind.TheVariants.{Bounds, Pointer}
@@ -18,13 +18,12 @@ use Rattle.rv_asm.specs.declared.parts.Part.{Part}
 use Rattle.rv_asm.specs.declared.parts.Part.TheVariants.{Plain, Label, Branch, Jump}
 use Rattle.rv_code.specs.Code.{Fits}
 use Rattle.rv_code.specs.declared.instr.Instr.{Instr}
-use Rattle.rv_code.specs.declared.instr.Instr.TheVariants.{Lui, Addi, Slli, Srli, Add, Sub, Sll, Srl, Or, Lw, Lbu, Jalr}
-use Rattle.rv_select.specs.Layout.{cell, frame_bytes, negative, load, store, constant}
-use Rattle.rv_select.specs.Steps.{plains, fetch, call_code, step_code, step_parts, label_out, call_parts, number_code, report_code, arguments_code, look_code, owner_code}
-use Rattle.rv_select.specs.Checks.{find_block, find_base, find_offset, widen, mark_code, unless_parts, move_end, move_parts, load_begin, load_owner, load_parts, count_code, touch_code, last_distance, span_parts, sequence_parts, sequence_labels}
-use Rattle.rv_select.specs.Selection.{choice_parts, is_end, loop_parts, item_labels, items_labels, held_behind, item_parts, items_parts}
-use Rattle.rv_select.specs.Words.{StepHasWords, HaveWords, FunctionHasWords, HasWords}
-use Rattle.rv_select.proofs.Encodable.{AllFit, none_fits, one_fits, fit_join, both, tested, loaded, stored, added, fetch_fits, constant_fits, owner_fits, look_fits, call_fits, report_fits, number_fits, same_fits, arith_fits, slot_fits, looked_fits, frame_fits, loading_fits, storing_fits, checked_fits, line_fits, environment_fits, AreFew, call_arguments_fit, store_fits}
+use Rattle.rv_code.specs.declared.instr.Instr.TheVariants.{Addi, Slli, Srli, Add, Sub, Sll, Srl, Lw, Lbu}
+use Rattle.rv_select.specs.Layout.{load}
+use Rattle.rv_select.specs.Steps.{plains, step_parts, label_out}
+use Rattle.rv_select.specs.Checks.{find_block, find_base, find_offset, widen, mark_code, unless_parts, move_end, move_parts, load_parts, last_distance, span_parts, sequence_parts, sequence_labels}
+use Rattle.rv_select.specs.Words.{StepHasWords}
+use Rattle.rv_select.proofs.Encodable.{AllFit, one_fits, fit_join, both, tested, loaded, stored, added, constant_fits, owner_fits, look_fits, report_fits, number_fits, same_fits, arith_fits, slot_fits, looked_fits, frame_fits, loading_fits, storing_fits, checked_fits, line_fits, environment_fits, AreFew, call_arguments_fit}
 
 -- ---- Parts
 
@@ -90,7 +89,7 @@ module _ (total : ℕ) where
     base_fits : (p : ℕ) → p ≤ 255 → AllFit (find_base g p)
     base_fits p few =
         fit_join (one_fits (Slli 7 7 g) (omega (arith, most), lit< tt, lit< tt))
-            (fit_join (tested (Srl 7 7 13 ∷ Sll 7 7 13 ∷ Addi 14 0 1 ∷ Sll 14 14 13 ∷ []) refl) (fit_join (loaded 5 p (lit< tt) few) (tested (Slli 16 5 1 ∷ Srli 16 16 1 ∷ []) refl)))
+        (fit_join (tested (Srl 7 7 13 ∷ Sll 7 7 13 ∷ Addi 14 0 1 ∷ Sll 14 14 13 ∷ []) refl) (fit_join (loaded 5 p (lit< tt) few) (tested (Slli 16 5 1 ∷ Srli 16 16 1 ∷ []) refl)))
 
     offset_fits : (p : ℕ) (distance : List Instr) → p ≤ 255 → AllFit distance → AllFit (find_offset g p distance)
     offset_fits p distance few d = fit_join (fit_join (base_fits p few) d) (tested (Add 16 16 6 ∷ Sub 15 16 7 ∷ []) refl)
@@ -109,9 +108,9 @@ module _ (total : ℕ) where
         let r1 : n + 1 < total = omega (arith, room) in
         let r2 : n + 2 < total = omega (arith, room) in
         joined (joined (joined (joined (joined (joined (joined (joined
-            (plain (block_fits p sp)) (unless_sound branch.Bne 13 0 n Bounds line (lit< tt) (lit< tt) sl r0)) (plain (offset_fits p distance sp sd)))
-            (branch_to branch.Bltu 15 14 (n + 2) (lit< tt) (lit< tt) r2)) (plain (widen_fits half whole))) (unless_sound branch.Bltu 15 14 (n + 1) Bounds line (lit< tt) (lit< tt) sl r1))
-            (plain (tested mark_code refl))) (label (n + 2))) (plain (end_fits p q sp sq))
+        (plain (block_fits p sp)) (unless_sound branch.Bne 13 0 n Bounds line (lit< tt) (lit< tt) sl r0)) (plain (offset_fits p distance sp sd)))
+        (branch_to branch.Bltu 15 14 (n + 2) (lit< tt) (lit< tt) r2)) (plain (widen_fits half whole))) (unless_sound branch.Bltu 15 14 (n + 1) Bounds line (lit< tt) (lit< tt) sl r1))
+        (plain (tested mark_code refl))) (label (n + 2))) (plain (end_fits p q sp sq))
 
     pub load_sound : 2 ^ (25 - g) < 2 ^ 32 → (n w at line : ℕ) → w ≤ 255 → at ≤ 255 → line ≤ 255 → n + 2 ≤ total → AreSound total (load_parts g n w at line)
     unfolding load_parts
@@ -121,8 +120,8 @@ module _ (total : ℕ) where
         let begin = fit_join (loaded 5 at (lit< tt) sa) (fit_join (tested (Lw 5 5 0 ∷ []) refl) (stored 5 w (lit< tt) sw)) in
         let owner = fit_join (fit_join (loaded 5 w (lit< tt) sw) (owner_fits g most)) (constant_fits 6 (2 ^ (25 - g)) (lit< tt) slots) in
         joined (joined (joined (joined (joined
-            (plain begin) (branch_to branch.Beq 5 0 (n + 1) (lit< tt) (lit< tt) r1)) (plain owner)) (unless_sound branch.Bltu 7 6 n Pointer line (lit< tt) (lit< tt) sl r0))
-            (plain (look_fits 13 7 (lit< tt) (lit< tt)))) (unless_sound branch.Bne 13 0 (n + 1) Pointer line (lit< tt) (lit< tt) sl r1)
+        (plain begin) (branch_to branch.Beq 5 0 (n + 1) (lit< tt) (lit< tt) r1)) (plain owner)) (unless_sound branch.Bltu 7 6 n Pointer line (lit< tt) (lit< tt) sl r0))
+        (plain (look_fits 13 7 (lit< tt) (lit< tt)))) (unless_sound branch.Bne 13 0 (n + 1) Pointer line (lit< tt) (lit< tt) sl r1)
 
     pub span_sound : half_slot g < 2 ^ 32 → 2 ^ g < 2 ^ 32 → (n p count q line : ℕ) → p ≤ 255 → count ≤ 255 → q ≤ 255 → line ≤ 255 → n + 5 ≤ total → AreSound total (span_parts g n p count q line)
     unfolding span_parts
@@ -132,9 +131,9 @@ module _ (total : ℕ) where
         let r2 : n + 2 + 3 ≤ total = omega (arith, room) in
         let last = fit_join (loaded 6 count (lit< tt) sn) (tested (Addi 6 6 0xffff_ffff ∷ []) refl) in
         joined (joined (joined (joined (joined (joined
-            (plain (fit_join (loaded 6 count (lit< tt) sn) (constant_fits 7 0x0100_0001 (lit< tt) (lit< tt)))) (unless_sound branch.Bltu 6 7 n Bounds line (lit< tt) (lit< tt) sl r0))
-            (branch_to branch.Beq 6 0 (n + 1) (lit< tt) (lit< tt) r1)) (plain (fit_join (loaded 5 p (lit< tt) sp) (tested (Lbu 5 5 0 ∷ []) refl))))
-            (move_sound half whole (n + 2) p (last_distance count) q line sp last sq sl r2)) (plain (tested (Lbu 5 16 0 ∷ []) refl))) (label (n + 1))
+        (plain (fit_join (loaded 6 count (lit< tt) sn) (constant_fits 7 0x0100_0001 (lit< tt) (lit< tt)))) (unless_sound branch.Bltu 6 7 n Bounds line (lit< tt) (lit< tt) sl r0))
+        (branch_to branch.Beq 6 0 (n + 1) (lit< tt) (lit< tt) r1)) (plain (fit_join (loaded 5 p (lit< tt) sp) (tested (Lbu 5 5 0 ∷ []) refl))))
+        (move_sound half whole (n + 2) p (last_distance count) q line sp last sq sl r2)) (plain (tested (Lbu 5 16 0 ∷ []) refl))) (label (n + 1))
 
 -- ---- What the discipline says of numbers
 

@@ -1,5 +1,4 @@
 -- The numbers of flat code that its instructions have as constants are words.
-use Rattle.std.specs.Prelude.{List}
 use Rattle.std.specs.List.{AllByRecursion}
 use Rattle.flat_code.specs.Code.{FStep, FSteps, FFunction, FCode}
 use Rattle.rv_machine.specs.Formed.{IsWord}
