@@ -3,3 +3,9 @@ pub mod Pushed
 pub mod Wholes
 pub mod AllMarks
 pub mod SmallFiles
+pub mod LinedRules
+pub mod LinedExpressions
+pub mod LinedInitials
+pub mod LinedStatements
+pub mod LinedFiles
+pub mod Answered
