@@ -3,3 +3,5 @@ pub mod Safe
 pub mod Composed
 pub mod Layered
 pub mod Made
+pub mod Reading
+pub mod Images

@@ -1,8 +1,9 @@
 -- An image that is made of the code of a program is right for it.
-use Rattle.std.proofs.Common.{◌≡◌, ℕ, zero, suc, ◌<◌, ◌≤◌, ◌+◌, ◌*◌, List, [], ◌∷◌, length, Option, Some, None, refl, sym, ap, ◌∙◌, subst, arith}
+use Rattle.std.proofs.Common.{◌≡◌, ℕ, zero, suc, ◌<◌, ◌≤◌, ◌+◌, ◌*◌, List, [], ◌∷◌, ◌++◌, length, Option, Some, None, refl, sym, ap, ◌∙◌, subst, arith}
 use Rattle.std.specs.Prelude.{All, map, replicate, false, true, slice_get, slice_index}
 use Rattle.std.proofs.lemmas.Bool.{true≢false}
-use Rattle.std.proofs.lemmas.List.{length-map}
+use Rattle.std.proofs.lemmas.List.{length-map, replicate_more}
+use Rattle.std.proofs.lemmas.List.Elements.{All-from_get_or}
 use Rattle.c_typed.specs.TypedTree.{CProgram}
 use Rattle.c_typed.specs.Typed.{Typed}
 use Rattle.size_table.specs.Blocks.{Block}
@@ -14,8 +15,8 @@ use Rattle.source_meaning.specs.Worlds.{Line, Moved}
 use Rattle.mid_code.specs.Code.{Function, Program}
 use Rattle.mid_code.specs.Formed.{Formed}
 use Rattle.mid_code.specs.Runs as mid
-use Rattle.lowering.specs.Built as lowering
-use Rattle.lowering.specs.Keeps as lowering
+use Rattle.lowering.specs.Built.{IsBuilt}
+use Rattle.lowering.specs.Keeps.{Keeps}
 use Rattle.lowering.specs.Lower.{lowered}
 use Rattle.bounds_instr.specs.Code.{frame_of, function_code, frames_of, global_blocks, instrumented}
 use Rattle.flat_code.specs.Accounts.{frame_size}
@@ -41,6 +42,9 @@ pub record MadeLaws : Type 0 where
   pub fits : CodeFits
   pub main : MainFits
   pub frameless : NoFrames
+
+no_bytes : All IsByte []
+no_bytes = All-from_get_or IsByte [] 0 (λ i low. absurd (omega (arith, low)))
 
 -- no site is left unchecked
 all_checked : (os : List Object) (marks : List source.Mark) → SafeSitesHold no_sites os marks
@@ -85,12 +89,16 @@ frames_fit g (x ∷ xs) h zero f e =
     (record { exponents = []; is = ap Some none; decline = tt; total = sym (ap frame_size none) })
 frames_fit g (x ∷ xs) h (suc k) f e = frames_fit g xs (rest_is (frame_of g x) [] (map (frame_of g) xs) (replicate (length xs) []) h) k f e
 
+-- one frame without objects more
+pub one_more : (n : ℕ) → let none : List ℕ = [] in replicate n none ++ none ∷ [] ≡ replicate (n + 1) none
+one_more n = replicate_more n []
+
 replicated : {A : Type 0} (x : A) (n i : ℕ) → i < n → slice_get (replicate n x) i ≡ Some x
 replicated x zero i h = absurd (omega (arith, h))
 replicated x (suc n) zero h = refl
 replicated x (suc n) (suc i) h = replicated x n i (omega (arith, h))
 
-module _ (laws : MadeLaws) (p : CProgram) (image : Image) (typed : Typed p) (built : lowering.IsBuilt p) (formed : Formed (lowered p)) (made : IsMade (lowered p) image) where
+module _ (laws : MadeLaws) (p : CProgram) (image : Image) (typed : Typed p) (built : IsBuilt p) (formed : Formed (lowered p)) (made : IsMade (lowered p) image) where
   abbrev code : FCode
   code = instrumented 4 (lowered p)
 
@@ -106,7 +114,7 @@ module _ (laws : MadeLaws) (p : CProgram) (image : Image) (typed : Typed p) (bui
   of_code : selection.IsImageOf code image
   of_code = record {
     rules = made.rules;
-    bytes = subst (All IsByte) (sym made.initial) tt;
+    bytes = subst (All IsByte) (sym made.initial) no_bytes;
     resolved = made.resolved;
     entry = made.entry;
     initial = λ i. ap (λ bytes. slice_index bytes i) made.initial;
@@ -123,21 +131,21 @@ module _ (laws : MadeLaws) (p : CProgram) (image : Image) (typed : Typed p) (bui
       (subst (λ blocks. RunsAs (machine.global_blocks image) (λ m. outcome_of (flat_run 4 code blocks image.frames input m)) (machine_after image input)) no_blocks
       (laws.runs code image of_code input fine))
 
-  layers : lowering.Keeps p (lowered p) → Layers 4 p (lowered p) no_sites code image
+  layers : Keeps p (lowered p) → Layers 4 p (lowered p) no_sites code image
   layers keeps = record {
     slot = refl;
     lowered = keeps;
-    sites = λ input m fine. all_checked _ _;
+    sites = λ input m fine. let w = (mid.outcome 4 (lowered p) input m).point.world in all_checked w.objects w.trail;
     kept = made.kept;
     layout = subst (AreGlobals 4) (sym frameless.globals) (no_globals 4);
     frames = λ k f found line. frames_fit 4 (lowered p).functions frameless.frames k f found;
     disciplined = made.disciplined;
     rules = made.rules;
-    bytes = subst (All IsByte) (sym made.initial) tt;
+    bytes = subst (All IsByte) (sym made.initial) no_bytes;
     words = made.resolved.each;
     globals = no_blocks;
     runs = runs;
   }
 
-  pub right : lowering.Keeps p (lowered p) → Right 4 p no_sites image
+  pub right : Keeps p (lowered p) → Right 4 p no_sites image
   right keeps = laws.right 4 p (lowered p) no_sites code image (layers keeps)

@@ -97,6 +97,11 @@ abbrev pub of_lower : LowerError → CompileError
 of_lower lower.Memory = compile.Memory
 of_lower error = compile.Lower error
 
+-- what lowering answers beside code: a limit, or a program that is accepted and not built
+abbrev pub limit_of : LowerError → Result Unit CompileError
+limit_of lower.NotBuilt = Ok tt
+limit_of error = Err (of_lower error)
+
 -- the typed program is that of the text, and keeps the rules of typing; or the refusal is that of the text
 abbrev pub ReadsProgram : List ℕ → Result TypedProgram CompileError → Type 0
 ReadsProgram text (Ok program) = Means text (program_of program) × Typed (program_of program) × HasLines (program_of program)

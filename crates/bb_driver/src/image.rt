@@ -18,6 +18,7 @@ use size_table::memory_map::{SLOT_EXPONENT, TEXT_START};
 use std::alloc::{AllocError, Global};
 
 /// As many frames without objects.
+#[tactic(auto, using(crate::proofs::Made::one_more))]
 fn frames(alloc: Global, count: usize) -> Result<List<List<u8>>, AllocError>
     ensures { IfOk result (λ frames. frames ≡ replicate count []) }
 {

@@ -1,6 +1,6 @@
 //! From a text to its typed program.
-ghost use Rattle.std.specs.Prelude.{◌<◌, ◌^◌, length};
-ghost use Rattle.bb_driver.specs.Sources.{ReadsProgram, Checks};
+ghost use Rattle.std.specs.Prelude.{◌≡◌, ◌<◌, ◌^◌, length};
+ghost use Rattle.bb_driver.specs.Sources.{ReadsProgram, Checks, limit_of};
 
 use crate::error::CompileError;
 use c_lexer::lex;
@@ -23,6 +23,16 @@ pub fn read(alloc: Global, text: &[u8]) -> Result<Program, CompileError>
     Ok(type_unit(alloc, &unit)?)
 }
 
+/// What a limit refuses; what is only not built is accepted.
+fn limit_of(error: LowerError) -> Result<(), CompileError>
+    ensures { result ≡ limit_of error }
+{
+    match error {
+        LowerError::NotBuilt => Ok(()),
+        error => Err(CompileError::from(error)),
+    }
+}
+
 /// Whether a text is accepted: read, and within the limits of the compiler.
 pub fn check(alloc: Global, text: &[u8]) -> Result<(), CompileError>
     requires { length text.now < 2 ^ 32 }
@@ -30,7 +40,7 @@ pub fn check(alloc: Global, text: &[u8]) -> Result<(), CompileError>
 {
     let program = read(alloc, text)?;
     match lower(alloc, &program) {
-        Ok(_) | Err(LowerError::NotBuilt) => Ok(()),
-        Err(error) => Err(CompileError::from(error)),
+        Ok(_) => Ok(()),
+        Err(error) => limit_of(error),
     }
 }
