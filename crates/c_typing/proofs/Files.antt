@@ -82,6 +82,7 @@ pub record Advances (numbers : CDefinitions) (names : List (List ℕ)) (f g : CF
   pub functions : List CFunction
   pub all_functions : g.functions ≡ f.functions ++ functions
   pub names_are : function_names functions ≡ names
+  pub extends : Extends f.scene.structs g.scene.structs
   pub back : (p : CProgram) → EndsIn p g.scene → EndsIn p f.scene
   pub are_globals : (p : CProgram) → EndsIn p g.scene → All (IsGlobalObject p) globals
   pub are_functions : (p : CProgram) → EndsIn p g.scene → All (IsDefinition p) functions
@@ -98,20 +99,23 @@ advances_then numbers xs ys f g h a b = record {
   functions = a.functions ++ b.functions;
   all_functions = b.all_functions ∙ ap (λ fs. fs ++ b.functions) a.all_functions ∙ append_assoc f.functions a.functions b.functions;
   names_are = names_append a.functions b.functions ∙ ap (λ names. names ++ function_names b.functions) a.names_are ∙ ap (λ names. xs ++ names) b.names_are;
+  extends = extends_then f.scene.structs g.scene.structs h.scene.structs a.extends b.extends;
   back = λ p ends. a.back p (b.back p ends);
   are_globals = λ p ends. All-append (IsGlobalObject p) a.globals b.globals (a.are_globals p (b.back p ends)) (b.are_globals p ends);
   are_functions = λ p ends. All-append (IsDefinition p) a.functions b.functions (a.are_functions p (b.back p ends)) (b.are_functions p ends);
 }
 
 -- a part that defines nothing and declares no object
-pub advances_scene : (numbers : CDefinitions) (f : CFile) (u : CScene) → IsFile numbers (record f { scene = u }) → ((p : CProgram) → EndsIn p u → EndsIn p f.scene) → Advances numbers [] f (record f { scene = u })
-advances_scene numbers f u is back = record {
+pub advances_scene : (numbers : CDefinitions) (f : CFile) (u : CScene) → IsFile numbers (record f { scene = u }) → Extends f.scene.structs u.structs → ((p : CProgram) → EndsIn p u → EndsIn p f.scene)
+    → Advances numbers [] f (record f { scene = u })
+advances_scene numbers f u is extends back = record {
   is_file = is;
   globals = [];
   all_globals = sym (append-nil f.globals);
   functions = [];
   all_functions = sym (append-nil f.functions);
   names_are = refl;
+  extends = extends;
   back = back;
   are_globals = λ p ends. All-nil (IsGlobalObject p);
   are_functions = λ p ends. All-nil (IsDefinition p);
@@ -158,7 +162,7 @@ grown_advances numbers f u is g =
     advances_scene numbers f u
     (file_kept numbers f u is (formed_on f.scene u g is.scene) (tags_ordered f.scene.structs u.structs g.grows.structs is.ordered) g.grows.names g.grows.functions
     (texts_grow f.scene u g.grows is.texts))
-    (λ p ends. ends_before p f.scene u g.grows ends)
+    (tags_extend f.scene.structs u.structs g.grows.structs) (λ p ends. ends_before p f.scene u g.grows ends)
 
 -- a scene with later structs
 formed_with : (s : CScene) (structs : List CStruct) → Extends s.structs structs → AreStructs structs → Formed s → Formed (record s { structs = structs })
@@ -178,7 +182,7 @@ structs_advance : (numbers : CDefinitions) (f : CFile) (structs : List CStruct) 
 structs_advance numbers f structs is later all ordered =
     advances_scene numbers f (record f.scene { structs = structs })
     (file_kept numbers f (record f.scene { structs = structs }) is (formed_with f.scene structs later all is.scene) ordered refl refl is.texts)
-    (λ p ends. record { extends = extends_then f.scene.structs structs p.structs later ends.extends; objects = ends.objects; texts = ends.texts; functions = ends.functions })
+    later (λ p ends. record { extends = extends_then f.scene.structs structs p.structs later ends.extends; objects = ends.objects; texts = ends.texts; functions = ends.functions })
 
 pub definition_advances : (numbers : CDefinitions) (f : CFile) (r : ℕ × CScene) → IsFile numbers f → DefinesStruct f.scene r → Advances numbers [] f (record f { scene = r.1 })
 definition_advances numbers f r is d =

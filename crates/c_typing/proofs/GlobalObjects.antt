@@ -126,6 +126,7 @@ module _ (numbers : CDefinitions) (f : CFile) (x : List ℕ) (t : CType) (is : I
     functions = [];
     all_functions = sym (append-nil f.functions);
     names_are = refl;
+    extends = tags_extend f.scene.structs u.structs grows.grows.structs;
     back = λ p ends.
         let before = ends_before p named_scene u grows.grows ends in
         record {
