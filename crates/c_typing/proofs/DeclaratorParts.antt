@@ -84,7 +84,7 @@ parameter_parts ps s (ParameterDeclaratorTree.Nested at n inner arrays) range r 
     let y = bound (array_steps x.0.0 x.0.1 arrays) _ r x.2 in
     with_pointers s ps n y.0 r (parts_then s ps x.0 y.0 (parameter_parts ps s inner range.1 x.0 x.1) (arrays_parts x.0.0 x.0.1 arrays range.2 y.0 y.1)) y.2
 
-based_no_array : (s : CScene) (specifier : SpecifierTree) → is_array (based s specifier).0 ≡ false
+pub based_no_array : (s : CScene) (specifier : SpecifierTree) → is_array (based s specifier).0 ≡ false
 based_no_array s (words.Void at) = refl
 based_no_array s (words.Char at) = refl
 based_no_array s (words.Int at) = refl

@@ -1,23 +1,23 @@
 -- A function is declared, for the first time or again.
-use Rattle.std.proofs.Common.{◌≡◌, ℕ, zero, suc, ◌+◌, ◌<◌, ◌≤◌, Bool, true, false, not, ◌&&◌, ◌||◌, ◌⊎◌, inl, inr, nat_eq, List, [], ◌∷◌, ◌++◌, length, refl, sym, ◌∙◌, ap, subst, arith}
-use Rattle.std.specs.Prelude.{Option, Some, None, Ok, All, map, slice_get, slice_set, is_some}
+use Rattle.std.proofs.Common.{◌≡◌, ℕ, zero, suc, ◌+◌, Bool, true, false, ◌&&◌, ◌||◌, ◌⊎◌, inl, inr, nat_eq, List, [], ◌∷◌, ◌++◌, length, refl, sym, ◌∙◌, ap, subst, arith}
+use Rattle.std.specs.Prelude.{Option, Some, None, Ok, All, slice_get, slice_set, is_some}
 use Rattle.std.proofs.lemmas.Bool.{eqb-true, eqb-false}
 use Rattle.std.proofs.lemmas.List.{length-append}
-use Rattle.std.proofs.lemmas.List.Elements.{All-nil, All-cons, All-push, All-weaker}
+use Rattle.std.proofs.lemmas.List.Elements.{All-push, All-weaker}
 use Rattle.std.proofs.lemmas.Option.{slice_get_within}
 use Rattle.c_typed.specs.Types.{CType, same}
-use Rattle.c_typed.specs.TypedTree.{CStruct, CGlobal, CFunction, CProgram}
+use Rattle.c_typed.specs.TypedTree.{CGlobal, CProgram}
 use Rattle.c_typed.specs.Sizes.{IsType}
 use Rattle.c_types.specs.Names.{found}
 use Rattle.c_types.specs.Scene.{CScene, CEntry, CDeclared}
 use Rattle.c_types.specs.Expressions.{in_library}
-use Rattle.c_types.specs.Units.{CFile, CDefinitions, number_or_zero, is_defined_at, function_is_taken, same_types, agrees, is_again, with_function}
+use Rattle.c_types.specs.Units.{CFile, CDefinitions, number_or_zero, function_is_taken, same_types, agrees, is_again, with_function}
 use Rattle.c_typing.proofs.Steps.{All-slice_get, front_kept, at_end}
 use Rattle.c_typing.proofs.Scenes.{IsEntry, IsDeclared, Formed, StandsAs, prototype_by}
 use Rattle.c_typing.proofs.Laid.{set_found, set_other, set_size, All-slice_set}
 use Rattle.c_typing.proofs.InitialTypes.{same_is}
 use Rattle.c_typing.proofs.FoundNames.{found_front, found_last, found_place}
-use Rattle.c_typing.proofs.Files.{global_types, prototypes, IsDeclaredAs, IsThere, HasNumber, IsKnown, IsFile, EndsIn}
+use Rattle.c_typing.proofs.Files.{global_types, prototypes, IsThere, HasNumber, IsKnown, IsFile, EndsIn}
 use Rattle.c_typing.proofs.GlobalObjects.{All-front}
 
 -- the same function later, which may be defined by then

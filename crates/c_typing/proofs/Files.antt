@@ -1,6 +1,6 @@
 -- What is known of a file so far, and how it goes on.
-use Rattle.std.proofs.Common.{◌≡◌, ℕ, zero, suc, ◌+◌, ◌<◌, ◌≤◌, Bool, true, false, List, [], ◌∷◌, ◌++◌, length, refl, sym, ◌∙◌, ap, subst, arith, append_assoc, append-nil}
-use Rattle.std.specs.Prelude.{Option, Some, None, All, map, slice_get}
+use Rattle.std.proofs.Common.{◌≡◌, ℕ, ◌<◌, ◌≤◌, true, List, [], ◌∷◌, ◌++◌, length, refl, sym, ◌∙◌, ap, subst, arith, append_assoc, append-nil}
+use Rattle.std.specs.Prelude.{Some, All, map, slice_get}
 use Rattle.std.proofs.lemmas.List.Elements.{All-nil, All-append, All-weaker}
 use Rattle.c_typed.specs.Types.{CType}
 use Rattle.c_typed.specs.TypedTree.{CStruct, CGlobal, CFunction, CProgram}
@@ -10,7 +10,7 @@ use Rattle.c_types.specs.Names.{found}
 use Rattle.c_types.specs.Scene.{CScene, CEntry, CDeclared}
 use Rattle.c_types.specs.Units.{CFile, CDefinitions, number_or_zero, is_main}
 use Rattle.c_typing.proofs.Steps.{front_kept}
-use Rattle.c_typing.proofs.Scenes.{AreStructs, AreNumbered, IsFront, Extends, HasMoreTags, HasMoreTexts, AreCalled, Grows, GrowsWithin, IsEntry, IsDeclared, IsDraft, IsNamed, Formed, StandsAs, prototype_by}
+use Rattle.c_typing.proofs.Scenes.{AreStructs, IsFront, Extends, Grows, GrowsWithin, IsEntry, IsDeclared, IsDraft, Formed, StandsAs, prototype_by}
 use Rattle.c_typing.proofs.Later.{tags_extend, extends_then}
 use Rattle.c_typing.proofs.LaterStructs.{entry_later, declared_later, draft_later, formed_on}
 use Rattle.c_typing.proofs.Laid.{AreOrdered, tags_ordered}

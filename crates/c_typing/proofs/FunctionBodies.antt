@@ -1,13 +1,13 @@
 -- The locals of a function, and its prototype.
-use Rattle.std.proofs.Common.{◌≡◌, ℕ, zero, suc, ◌+◌, ◌<◌, ◌≤◌, Bool, true, false, ◌||◌, List, [], ◌∷◌, ◌++◌, length, refl, sym, ◌∙◌, ap, subst, arith}
-use Rattle.std.specs.Prelude.{Option, Some, None, Ok, All, map, take, slice_get}
+use Rattle.std.proofs.Common.{◌≡◌, ℕ, zero, suc, ◌+◌, ◌≤◌, false, ◌||◌, List, [], ◌∷◌, ◌++◌, length, refl, sym, ◌∙◌, ap, subst, arith}
+use Rattle.std.specs.Prelude.{Some, All, map, take, slice_get}
 use Rattle.std.proofs.lemmas.List.{append_assoc, append-nil, map-append, length-map, length-append}
-use Rattle.std.proofs.lemmas.List.Elements.{All-nil, All-cons, All-head, All-tail, All-weaker}
+use Rattle.std.proofs.lemmas.List.Elements.{All-nil, All-cons, All-head, All-tail}
 use Rattle.c_typed.specs.Types.{CType, is_array, is_struct, IsScalar}
 use Rattle.c_typed.specs.TypedTree.{CStmt, CStruct, CLocal, CFunction, CProgram}
 use Rattle.c_typed.specs.Sizes.{size_of, IsType, IsComplete}
 use Rattle.c_typed.specs.Typed.{stmt_refers, IsLocalObject}
-use Rattle.c_types.specs.Scene.{CScene, CDraft, CLocalName}
+use Rattle.c_types.specs.Scene.{CScene, CDraft}
 use Rattle.c_types.specs.Parts.{CParam}
 use Rattle.c_types.specs.Declarators.{name_or_none}
 use Rattle.c_types.specs.Statements.{with_local}
@@ -15,10 +15,9 @@ use Rattle.c_types.specs.Units.{takes_struct, param_types, with_params, begun, e
 use Rattle.c_typing.proofs.Steps.{All-slice_get}
 use Rattle.c_typing.proofs.Accepted.{or_left, or_right}
 use Rattle.c_typing.proofs.Scenes.{draft_types, Extends, IsDraft, IsNamed, Formed}
-use Rattle.c_typing.proofs.Later.{type_later, complete_later, size_later, extends_then}
-use Rattle.c_typing.proofs.LaterStructs.{params_later}
-use Rattle.c_typing.proofs.MadeTypes.{IsParam, AreParams, param_is_scalar}
-use Rattle.c_typing.proofs.Goes.{Goes, goes_same, goes_then, extended, with_local_goes}
+use Rattle.c_typing.proofs.Later.{type_later, complete_later, size_later}
+use Rattle.c_typing.proofs.MadeTypes.{AreParams, param_is_scalar}
+use Rattle.c_typing.proofs.Goes.{Goes, goes_same, goes_then, with_local_goes}
 
 -- parameters as locals
 abbrev pub param_drafts : List CParam → List CDraft

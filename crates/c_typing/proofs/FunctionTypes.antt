@@ -1,18 +1,16 @@
 -- The type of a declared function.
-use Rattle.std.proofs.Common.{◌≡◌, ℕ, zero, suc, ◌+◌, ◌<◌, ◌≤◌, Bool, true, false, not, ◌&&◌, ◌||◌, nat_lt, nat_le, List, [], ◌∷◌, ◌++◌, length, refl, sym, ◌∙◌, ap, subst, arith}
-use Rattle.std.specs.Prelude.{Option, Some, None, Ok, Err, map, reverse, slice_get}
+use Rattle.std.proofs.Common.{◌≡◌, ℕ, ◌<◌, ◌≤◌, Bool, true, false, not, ◌&&◌, ◌||◌, nat_lt, nat_le, List, [], ◌∷◌, length, refl, subst}
+use Rattle.std.specs.Prelude.{Option, Some, None, Ok, reverse}
 use Rattle.std.proofs.lemmas.Bool.{ltb-false, leb-false}
-use Rattle.c_typed.specs.Types.{CType, same, is_array, is_struct}
-use Rattle.c_typed.specs.TypedTree.{CStruct}
+use Rattle.c_typed.specs.Types.{CType, same, is_array}
 use Rattle.c_typed.specs.Sizes.{IsType}
 use Rattle.c_typed.specs.TypedRules.{IsResult}
 use Rattle.c_rules.specs.declared.error.TypeError.TheVariants.{BadType, TooManyParams, TooManyFunctions}
-use Rattle.c_rules.specs.Rule.{Rule, refuse}
+use Rattle.c_rules.specs.Rule.{Rule}
 use Rattle.c_types.specs.Names.{found}
-use Rattle.c_types.specs.Scene.{CEntry, CDeclared}
 use Rattle.c_types.specs.Parts.{CParam, CPart, is_incomplete, has_function, lacks_size, made}
 use Rattle.c_types.specs.Declarators.{has_many_params}
-use Rattle.c_types.specs.Units.{CFile, is_main, gives_aggregate, takes_struct, same_types, param_types, agrees, is_again, is_int, has_none, breaks_main, unnamed, named_unless, function_type}
+use Rattle.c_types.specs.Units.{CFile, is_main, gives_aggregate, takes_struct, param_types, is_again, has_none, breaks_main, unnamed, named_unless, function_type}
 use Rattle.c_typing.proofs.Steps.{passes, not_false}
 use Rattle.c_typing.proofs.Accepted.{or_left, or_right}
 use Rattle.c_typing.proofs.MadeTypes.{AreParts, made_is, result_is}

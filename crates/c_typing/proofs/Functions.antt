@@ -1,36 +1,34 @@
 -- The functions of a file.
-use Rattle.std.proofs.Common.{◌≡◌, ℕ, zero, suc, ◌+◌, ◌<◌, ◌≤◌, Bool, true, false, ◌⊎◌, inl, inr, List, [], ◌∷◌, ◌++◌, length, refl, sym, ◌∙◌, ap, subst, arith, append-nil}
-use Rattle.std.specs.Prelude.{Option, Some, None, Ok, All, map, take, slice_get, is_some}
+use Rattle.std.proofs.Common.{◌≡◌, ℕ, ◌+◌, Bool, true, false, ◌⊎◌, inl, inr, List, [], ◌∷◌, ◌++◌, length, refl, sym, ◌∙◌, ap, subst, arith, append-nil}
+use Rattle.std.specs.Prelude.{Some, Ok, All, take, slice_get, is_some}
 use Rattle.std.proofs.lemmas.List.{length-map, length-append, map_push}
 use Rattle.std.proofs.lemmas.List.Elements.{All-nil, All-cons, All-push, All-weaker}
 use Rattle.c_words.specs.declared.place.At.{At}
 use Rattle.c_tree.specs.Syntax.{BlockTree}
 use Rattle.c_typed.specs.Types.{CType, is_array, IsScalar}
-use Rattle.c_typed.specs.TypedTree.{CStmt, CStruct, CGlobal, CLocal, CFunction, CProgram}
+use Rattle.c_typed.specs.TypedTree.{CStmt, CFunction, CProgram}
 use Rattle.c_typed.specs.Sizes.{IsType}
-use Rattle.c_typed.specs.TypedRules.{Prototype, IsResult, prototype_of}
-use Rattle.c_typed.specs.TypedBody.{Environment, IsStmt}
-use Rattle.c_typed.specs.Typed.{IsString, IsBlock, IsFunction, IsGlobalObject, environment_of}
+use Rattle.c_typed.specs.TypedRules.{prototype_of}
+use Rattle.c_typed.specs.TypedBody.{Environment}
+use Rattle.c_typed.specs.Typed.{IsString, IsFunction, IsGlobalObject, environment_of}
 use Rattle.c_rules.specs.declared.error.TypeError.TheVariants.{Twice}
-use Rattle.c_rules.specs.Rule.{Rule, ◌>>=◌}
 use Rattle.c_types.specs.Names.{found}
-use Rattle.c_types.specs.Scene.{CScene, CEntry, CDeclared, CDraft}
+use Rattle.c_types.specs.Scene.{CScene, CDeclared}
 use Rattle.c_types.specs.Parts.{CParam, CPart}
 use Rattle.c_types.specs.Expressions.{in_library}
 use Rattle.c_types.specs.Statements.{CAround, block}
-use Rattle.c_types.specs.Units.{CFile, CDefinitions, number_or_zero, is_main, function_is_taken, function_type, takes_struct, param_types, with_function, begun, ended, finished, declared_function, defined_function}
+use Rattle.c_types.specs.Units.{CFile, CDefinitions, number_or_zero, function_is_taken, function_type, param_types, with_function, begun, ended, finished, declared_function, defined_function}
 use Rattle.c_places.specs.InRange.{BlockInRange}
 use Rattle.c_typing.proofs.Steps.{passes, bound, same_ok, All-slice_get, front_kept, at_end}
-use Rattle.c_typing.proofs.Scenes.{at_structs, IsFront, Formed, Fits, Extends, draft_types, prototype_by}
+use Rattle.c_typing.proofs.Scenes.{Formed, Fits, Extends, prototype_by}
 use Rattle.c_typing.proofs.Later.{type_later, extends_same, extends_then}
 use Rattle.c_typing.proofs.LaterStatements.{stmt_later}
 use Rattle.c_typing.proofs.MadeTypes.{AreParams, AreParts}
 use Rattle.c_typing.proofs.Laid.{AreOrdered, tags_ordered}
 use Rattle.c_typing.proofs.Goes.{Goes, extended}
-use Rattle.c_typing.proofs.Conditions.{IsAround}
 use Rattle.c_typing.proofs.StatementTypes.{block_is, block_is_block}
-use Rattle.c_typing.proofs.Files.{prototypes, function_names, HasNumber, IsThere, IsKnown, IsFile, EndsIn, IsDefinition, Advances, advances_scene, ends_before, texts_grow}
-use Rattle.c_typing.proofs.GlobalObjects.{Laws, outside}
+use Rattle.c_typing.proofs.Files.{prototypes, HasNumber, IsThere, IsKnown, IsFile, EndsIn, IsDefinition, Advances, advances_scene, ends_before, texts_grow}
+use Rattle.c_typing.proofs.GlobalObjects.{Laws}
 use Rattle.c_typing.proofs.FunctionTypes.{IsFunctionType, function_type_is}
 use Rattle.c_typing.proofs.DeclaredFunctions.{IsSame, Declares, declares, same_prototype}
 use Rattle.c_typing.proofs.FunctionBodies.{param_drafts, params_scalar, params_types, Begins, begun_is, ended_formed, local_types, finished_types, finished_objects, All-types, taken_params, enough_locals}

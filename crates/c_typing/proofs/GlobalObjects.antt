@@ -1,39 +1,38 @@
 -- The objects of a file.
-use Rattle.std.proofs.Common.{◌≡◌, ℕ, zero, suc, ◌+◌, ◌<◌, ◌≤◌, Bool, true, false, ◌||◌, List, [], ◌∷◌, ◌++◌, length, refl, sym, ◌∙◌, ap, subst, arith, append_assoc, append-nil}
-use Rattle.std.specs.Prelude.{Option, Some, None, Ok, All, IfSome, map, slice_get, is_some, reverse}
+use Rattle.std.proofs.Common.{◌≡◌, ℕ, Bool, true, List, [], ◌∷◌, ◌++◌, length, refl, sym, ◌∙◌, ap, subst, arith, append-nil}
+use Rattle.std.specs.Prelude.{Option, Some, None, Ok, All, IfSome, slice_get}
 use Rattle.std.proofs.lemmas.List.{length-map, map_push}
-use Rattle.std.proofs.lemmas.List.Elements.{All-nil, All-cons, All-head, All-tail, All-push, All-append, All-weaker}
+use Rattle.std.proofs.lemmas.List.Elements.{All-nil, All-cons, All-head, All-tail, All-push, All-weaker}
 use Rattle.c_words.specs.declared.place.At.{At}
 use Rattle.c_tree.specs.Syntax.{InitializerTree}
 use Rattle.c_typed.specs.Types.{CType}
 use Rattle.c_typed.specs.TypedTree.{CStruct, CInitial, CGlobal, CFunction, CProgram}
 use Rattle.c_typed.specs.Sizes.{size_of, IsType, IsComplete}
 use Rattle.c_typed.specs.SizeLaws.{MembersLieWithin, MembersLieApart}
-use Rattle.c_typed.specs.TypedBody.{Environment, IsInitialized}
+use Rattle.c_typed.specs.TypedBody.{Environment}
 use Rattle.c_typed.specs.Typed.{IsInitialByte, IsGlobalObject}
 use Rattle.c_rules.specs.declared.error.TypeError.TheVariants.{Twice, BadType, TooManyParams}
-use Rattle.c_rules.specs.Rule.{Rule, ◌>>=◌}
+use Rattle.c_rules.specs.Rule.{Rule}
 use Rattle.c_rules.specs.Sound.{OperatorsAreSound}
 use Rattle.c_types.specs.Names.{found}
 use Rattle.c_types.specs.Scene.{CScene, CEntry, CDeclared}
-use Rattle.c_types.specs.Parts.{CPart, is_incomplete, has_function, lacks_size, made}
-use Rattle.c_types.specs.Expressions.{in_library}
+use Rattle.c_types.specs.Parts.{CPart, is_incomplete, has_function, lacks_size}
 use Rattle.c_types.specs.Declarators.{has_many_params, completed}
 use Rattle.c_types.specs.Initializers.{initialized, initial_bytes}
 use Rattle.c_types.specs.Units.{CFile, CDefinitions, object_is_taken, is_main, file_type, with_object, initialized_global, declared_object}
 use Rattle.c_places.specs.InRange.{InitializerInRange}
 use Rattle.c_typing.proofs.Steps.{passes, bound, same_ok, front_kept, at_end}
-use Rattle.c_typing.proofs.Scenes.{at_structs, IsFront, Extends, Grows, GrowsWithin, IsEntry, Formed, StandsAs, Fits, draft_types, prototype_by}
+use Rattle.c_typing.proofs.Scenes.{at_structs, Extends, GrowsWithin, IsEntry, Formed, StandsAs, Fits, draft_types}
 use Rattle.c_typing.proofs.Growth.{within_same}
 use Rattle.c_typing.proofs.Later.{tags_extend, extends_then, type_later, complete_later, size_later}
 use Rattle.c_typing.proofs.LaterStructs.{formed_on}
 use Rattle.c_typing.proofs.MadeTypes.{AreParts, IsMade, made_is}
 use Rattle.c_typing.proofs.DeclaratorParts.{completed_parts}
-use Rattle.c_typing.proofs.Laid.{AreOrdered, are_ranked, tags_ordered}
+use Rattle.c_typing.proofs.Laid.{are_ranked, tags_ordered}
 use Rattle.c_typing.proofs.InitialTypes.{initialized_grows, initialized_is}
 use Rattle.c_typing.proofs.InitialBytes.{initialized_held}
 use Rattle.c_typing.proofs.FoundNames.{found_front}
-use Rattle.c_typing.proofs.Files.{global_types, prototypes, IsDeclaredAs, HasNumber, IsThere, IsKnown, IsFile, EndsIn, IsDefinition, Advances, ends_before, texts_grow}
+use Rattle.c_typing.proofs.Files.{global_types, prototypes, HasNumber, IsThere, IsKnown, IsFile, EndsIn, IsDefinition, Advances, ends_before, texts_grow}
 
 -- the laws of the layers below
 pub record Laws : Type 0 where

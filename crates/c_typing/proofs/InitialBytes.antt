@@ -1,9 +1,9 @@
 -- The bytes that an initializer gives a global fit it, and point to objects that are there.
-use Rattle.std.proofs.Common.{◌≡◌, ℕ, zero, suc, ◌+◌, ◌-◌, ◌*◌, ◌/◌, ◌%◌, ◌<◌, ◌≤◌, Bool, true, false, nat_lt, List, [], ◌∷◌, ◌++◌, length, refl, sym, ◌∙◌, ap, subst, arith}
+use Rattle.std.proofs.Common.{◌≡◌, ℕ, suc, ◌+◌, ◌-◌, ◌*◌, ◌/◌, ◌%◌, ◌<◌, ◌≤◌, Bool, true, false, nat_lt, List, [], ◌∷◌, ◌++◌, length, refl, sym, ◌∙◌, ap, subst, arith}
 use Rattle.std.specs.Prelude.{Option, Some, None, All, IsTrue, map, slice_get, replicate, if◌then◌else◌}
 use Rattle.std.proofs.lemmas.Bool.{ltb-true}
 use Rattle.std.proofs.lemmas.List.{length-append, length-map, length-replicate}
-use Rattle.std.proofs.lemmas.List.Elements.{All-nil, All-cons, All-append, All-weaker, All-map, All-replicate}
+use Rattle.std.proofs.lemmas.List.Elements.{All-nil, All-cons, All-append, All-map, All-replicate}
 use Rattle.std.proofs.lemmas.Option.{slice_get_within}
 use Rattle.c_words.specs.declared.operators.UnaryOperator.TheVariants as unary
 use Rattle.c_typed.specs.declared.typed.GlobalObject.{GlobalObject}
@@ -11,13 +11,13 @@ use Rattle.c_typed.specs.declared.typed.GlobalObject.TheVariants as objects
 use Rattle.c_typed.specs.declared.typed.InitialByte.{InitialByte}
 use Rattle.c_typed.specs.declared.typed.InitialByte.TheVariants.{Byte, PointerPart}
 use Rattle.c_typed.specs.declared.typed_expr.Conversion.TheVariants as conversion
-use Rattle.c_typed.specs.Types.{CType, is_array, is_struct, IsPointer, IsScalar}
+use Rattle.c_typed.specs.Types.{CType, IsPointer, IsScalar}
 use Rattle.c_typed.specs.TypedTree.{CExpr, CForm, CInitial, CInitials, CMember, CStruct, CProgram, type_of}
-use Rattle.c_typed.specs.Sizes.{size_of, struct_size, IsComplete, IsType, member_type, members_of, member_at}
+use Rattle.c_typed.specs.Sizes.{size_of, struct_size, IsComplete, IsType, member_type, members_of}
 use Rattle.c_typed.specs.SizeLaws.{MembersLieWithin, MembersLieApart}
 use Rattle.c_typed.specs.TypedOperands.{is_place, IsGiven}
-use Rattle.c_typed.specs.TypedRules.{IsFilled, IsCopied, part_type}
-use Rattle.c_typed.specs.TypedBody.{Environment, IsBytes, IsText, IsExpr, IsInitial, AreInitials, IsInitialized}
+use Rattle.c_typed.specs.TypedRules.{IsFilled, part_type}
+use Rattle.c_typed.specs.TypedBody.{Environment, IsBytes, IsExpr, IsInitial, AreInitials, IsInitialized}
 use Rattle.c_typed.specs.Typed.{IsStruct, AreRanked, IsObject, IsInitialByte}
 use Rattle.c_rules.specs.Constants.{constant, unary_value, of_one}
 use Rattle.c_types.specs.Initializers.{pointed_array, pointed_global, pointed_object, is_null_pointer, number_bytes, pointer_bytes, bytes_by, value_bytes, bytes_or_none, offset_or_zero, part_offset, type_or_void, padded, initial_bytes, parts_bytes}
