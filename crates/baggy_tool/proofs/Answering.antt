@@ -1,145 +1,61 @@
--- From the run of an image to the answer of its text, and from a text to its file.
-use Rattle.std.proofs.Common.{◌≡◌, ◌≢◌, ℕ, ◌+◌, ◌*◌, ◌%◌, ◌≤◌, List, [], ◌∷◌, length, Option, Some, None, refl, sym, ap, subst, ◌∙◌, arith, lit≤}
-use Rattle.std.specs.Prelude.{IsSome, is_some, Result, Ok, Err, All}
-use Rattle.std.proofs.lemmas.List.Elements.{All-from_get_or}
-use Rattle.bb_watch.specs.declared.event.Event.{Event}
-use Rattle.size_table.specs.Blocks.{Block}
+-- From the answer of the compiler, or the run of an image, to the answer of a text, and from a text to its file.
+use Rattle.std.proofs.Common.{◌≡◌, ◌≢◌, ℕ, ◌≤◌, List, Option, Some, None, refl, sym, subst, arith}
+use Rattle.std.specs.Prelude.{Err}
 use Rattle.rv_image.specs.Spelling.{spelling}
-use Rattle.std.specs.List.{AllByRecursion}
-use Rattle.std.proofs.lemmas.List.Elements.{recursion_from_All}
 use Rattle.rv_image.specs.declared.image.Image.{Image}
-use Rattle.rv_image.specs.Rules.{IsImage}
-use Rattle.rv_machine.specs.declared.stop.Halt.{Halt}
-use Rattle.rv_machine.specs.declared.stop.Halt.TheVariants as halt
 use Rattle.rv_machine.specs.declared.stop.Stop.{Stop}
 use Rattle.rv_machine.specs.declared.stop.Stop.TheVariants as stop
 use Rattle.rv_machine.specs.State.{State}
-use Rattle.rv_machine.specs.Environment.{World}
-use Rattle.rv_machine.specs.Machine.{machine_after}
 use Rattle.rv_machine.specs.Start.{start}
 use Rattle.rv_machine.specs.Runs.{Stops, FaultCause, fault_of}
-use Rattle.rv_machine.specs.Safety.{IsSafeEnding, SafeRun}
-use Rattle.rv_machine.specs.Live.{global_blocks}
-use Rattle.rv_machine.specs.Formed.{IsByte}
-use Rattle.bb_watch.specs.Told.{Tell, events_of}
-use Rattle.bb_watch.specs.Safety.{Each, IsMoveSafe, IsAccessSafe, IsControlSafe, open_after}
 use Rattle.bb_outside.specs.Causes.{Rose}
 use Rattle.bb_outside.specs.Files.{Told, Untold, Missing, Holds, Made, Stays}
-use Rattle.rv_image.specs.Rules.{slot_of}
-use Rattle.baggy_tool.specs.declared.form.Summand.{Summand}
+use Rattle.lowering.specs.declared.error.LowerError.TheVariants as lower
+use Rattle.bb_driver.specs.declared.error.CompileError.{CompileError}
+use Rattle.bb_driver.specs.declared.error.CompileError.TheVariants as compile
+use Rattle.bb_driver.specs.Sources.{Checks}
+use Rattle.bb_driver.specs.Compiles.{IsImageOf, Compiles}
 use Rattle.baggy_tool.specs.declared.ending.Ending.{Ending}
 use Rattle.baggy_tool.specs.declared.ending.Ending.TheVariants as ending
-use Rattle.baggy_tool.specs.declared.build.BuildError.{BuildError}
-use Rattle.baggy_tool.specs.declared.build.BuildError.TheVariants as build
-use Rattle.baggy_tool.specs.Building.{Builds, BuildsSum, RunsImage, WritesImage}
-use Rattle.baggy_tool.specs.Accepted.{numbers_of, ExitsWithSum, IsImageOf}
+use Rattle.baggy_tool.specs.Building.{refused, RunsImage, WritesImage}
 use Rattle.baggy_tool.specs.Calls.{Streams, Files, Noting, RunsTo, AnswersRun, IsSpelled, AnswersExec, WritesTo, AnswersCompile, AnswersCheck, Answers, AnswersWords, IsKept, Notes}
-use Rattle.baggy_tool.specs.Code.{IsCompiled}
 use Rattle.baggy_tool.specs.Endings.{ending_of, line_of}
 use Rattle.baggy_tool.specs.Files.{most_source, most_image, IsFile}
-use Rattle.baggy_tool.specs.Form.{Sum, HasSummands, value_of}
 use Rattle.baggy_tool.specs.Notes.{IsAppended}
 use Rattle.baggy_tool.specs.Words.{Request, Run, Exec, Compile, Check}
-use Rattle.baggy_tool.proofs.Machine.{MachineLaws}
-use Rattle.baggy_tool.proofs.FormLemmas.{found_small, found_count, found_sum}
-use Rattle.baggy_tool.proofs.Simulation.{AreSmall, words_length, image_exits, image_only_exits, image_is_quiet}
 
--- ---- The image of a sum
+-- ---- A source that has no image
 
-compiled_is_image : (image : Image) (ss : List Summand) → IsCompiled ss image → length ss ≤ 200 → IsImage image
-compiled_is_image image ss h few =
-    let n = ap length h.text ∙ words_length ss in
-    let e = h.entry in
-    record {
-      version = h.version;
-      entry_aligned = rw e refl;
-      entry_low = omega arith;
-      entry_high = omega arith;
-      globals_few = rw h.globals (lit≤ tt);
-      globals_decline = rw h.globals tt;
-      globals_fit = rw h.globals (lit≤ tt);
-      frames_few = rw h.frames (lit≤ tt);
-      blocks_few = rw h.frames (lit≤ tt);
-      frames_fit = rw h.frames tt;
-      initial_fits = rw (h.initial, h.globals) (lit≤ tt);
-      initial_ends = rw h.initial tt;
-      text_some = omega arith;
-      text_fits = omega arith;
-      entry_within = omega arith;
-    }
+-- what the compiler refuses, or is not built, is refused
+pub refused_runs : (text : List ℕ) (n : ℕ) (now : Streams) (error : CompileError) → Compiles text (Err error) → AnswersRun text n now now None (refused error)
+refused_runs text n now (compile.Lex error) h = (h, refl)
+refused_runs text n now (compile.Parse error) h = (h, refl)
+refused_runs text n now (compile.Typing error) h = (h, refl)
+refused_runs text n now (compile.Lower (lower.TooManyNodes count)) h = (h, refl)
+refused_runs text n now (compile.Lower (lower.TooManyValues name count)) h = (h, refl)
+refused_runs text n now (compile.Lower lower.NotBuilt) h = (h, refl)
+refused_runs text n now (compile.Lower lower.Memory) h = (h, refl)
+refused_runs text n now compile.Memory h = refl
 
-are_small : (ss : List Summand) → AllByRecursion (λ (s : Summand). s.value ≤ 2147483647) ss → AreSmall ss
-are_small [] h = tt
-are_small (s ∷ ss) h = (h.0, are_small ss h.1)
+pub refused_compiles : (text : List ℕ) (old new : Told) (faults faults' : ℕ) (error : CompileError) → Compiles text (Err error) → AnswersCompile text old new faults faults' None (refused error)
+refused_compiles text old new faults faults' (compile.Lex error) h = h
+refused_compiles text old new faults faults' (compile.Parse error) h = h
+refused_compiles text old new faults faults' (compile.Typing error) h = h
+refused_compiles text old new faults faults' (compile.Lower (lower.TooManyNodes count)) h = h
+refused_compiles text old new faults faults' (compile.Lower (lower.TooManyValues name count)) h = h
+refused_compiles text old new faults faults' (compile.Lower lower.NotBuilt) h = h
+refused_compiles text old new faults faults' (compile.Lower lower.Memory) h = h
+refused_compiles text old new faults faults' compile.Memory h = tt
 
-exits_with_sum : MachineLaws → (text : List ℕ) (ss : List Summand) (image : Image) (found : HasSummands text ss) → IsCompiled ss image → ExitsWithSum found.0 image
-exits_with_sum laws text ss image found h =
-    let small = are_small ss (recursion_from_All (λ (s : Summand). s.value ≤ 2147483647) ss (found_small text ss found)) in
-    let few = found_count text ss found in
-    let sum = found_sum text ss found.0 found found.1 in
-    let count = ap length found.2 in
-    record {
-      exits = λ input n le. image_exits laws image ss input n h small few (omega arith) ∙ ap (λ (v : ℕ). Some (halt.Exited (v % 256))) sum;
-      calls = λ input n number before. image_only_exits laws image ss input n number h small few before;
-    }
-
--- ---- Its safety
-
--- where nothing is told, all that is told is safe
-each_none : (P : List Block → List Block → Event → Type 0) (live ever : List Block) (told : List Tell) → told ≡ [] → Each P live ever (events_of told)
-each_none P live ever told none = subst (λ (t : List Tell). Each P live ever (events_of t)) (sym none) tt
-
-returns_none : (told : List Tell) → told ≡ [] → IsSome (open_after [] (events_of told))
-returns_none told none = subst (λ (t : List Tell). IsSome (open_after [] (events_of t))) (sym none) refl
-
-ending_is_safe : (sum : Sum) (image : Image) (input : List ℕ) (n : ℕ) → MachineLaws → ExitsWithSum sum image → (o : Option Halt) → (machine_after image input n).machine.ending ≡ o → IsSafeEnding o
-ending_is_safe sum image input n laws right None e = tt
-ending_is_safe sum image input n laws right (Some h) e =
-    let m = n + (8 * numbers_of sum + 8) in
-    let w : World = record { machine = start image; left = input; told = [] } in
-    let stay = ap (λ (x : World). x.machine.ending) (laws.stay m n w (ap is_some e) (omega arith)) in
-    let same : h ≡ halt.Exited (value_of sum % 256) = one_of (sym e ∙ sym stay ∙ right.exits input m (omega arith)) in
-    subst (λ (x : Halt). IsSafeEnding (Some x)) (sym same) tt
-  where
-    one_of : {x y : Halt} → Some x ≡ Some y → x ≡ y
-    one_of p = cc
-
-runs_safely : MachineLaws → (text : List ℕ) (ss : List Summand) (image : Image) (found : HasSummands text ss) → IsCompiled ss image → IsImage image → ExitsWithSum found.0 image → (input : List ℕ) (n : ℕ) → All IsByte input → SafeRun (slot_of image) image input n
-runs_safely laws text ss image found h valid right input n bytes =
-    let small = are_small ss (recursion_from_All (λ (s : Summand). s.value ≤ 2147483647) ss (found_small text ss found)) in
-    let none = image_is_quiet laws image ss input n h small (found_count text ss found) in
-    let w = machine_after image input n in
-    let globals = global_blocks image in
-    let initial : All IsByte image.initial = subst (λ (bs : List ℕ). All IsByte bs) (sym h.initial) (All-from_get_or IsByte [] 0 (λ i low. absurd (omega (arith, low)))) in
-    let accesses = each_none (IsAccessSafe (slot_of image)) globals globals w.told none in
-    let control = each_none IsControlSafe globals globals w.told none in
-    laws.safe image input n valid initial bytes (record {
-      contained = record {
-        moves = each_none (IsMoveSafe (slot_of image)) globals globals w.told none;
-        accesses = accesses;
-        control = control;
-        table = laws.table image input n valid initial bytes accesses control;
-        returns = returns_none w.told none;
-      };
-      traps = ending_is_safe found.0 image input n laws right w.machine.ending refl;
-    })
-
-built_image : MachineLaws → (text : List ℕ) (image : Image) → BuildsSum text (Ok image) → IsImageOf text image
-built_image laws text image b =
-    let valid = compiled_is_image image b.1 b.3 (found_count text b.1 b.2) in
-    let same = exits_with_sum laws text b.1 image b.2 b.3 in
-    record {
-      program = b.2.0;
-      accepted = (b.0, b.2.1);
-      valid = valid;
-      right = record { safely = runs_safely laws text b.1 image b.2 b.3 valid same; same = same };
-    }
-
--- what is built is right
-pub builds_right : MachineLaws → (text : List ℕ) (r : Result Image BuildError) → BuildsSum text r → Builds text r
-builds_right laws text (Ok image) b = built_image laws text image b
-builds_right laws text (Err (build.Refused refusal)) b = b
-builds_right laws text (Err build.Memory) b = tt
+pub refused_checks : (text : List ℕ) (error : CompileError) → Checks text (Err error) → AnswersCheck text None (refused error)
+refused_checks text (compile.Lex error) h = h
+refused_checks text (compile.Parse error) h = h
+refused_checks text (compile.Typing error) h = h
+refused_checks text (compile.Lower (lower.TooManyNodes count)) h = h
+refused_checks text (compile.Lower (lower.TooManyValues name count)) h = h
+refused_checks text (compile.Lower lower.NotBuilt) h = absurd h.2
+refused_checks text (compile.Lower lower.Memory) h = h
+refused_checks text compile.Memory h = tt
 
 -- ---- A run
 

@@ -1,14 +1,5 @@
-pub mod FormWords
-pub mod FormSteps
-pub mod FormFound
-pub mod FormAgain
-pub mod FormLemmas
-pub mod FormReading
 pub mod Numbers
 pub mod Files
 pub mod Noting
-pub mod Machine
-pub mod Simulation
-pub mod Sources
 pub mod Answering
 pub mod CommandLine

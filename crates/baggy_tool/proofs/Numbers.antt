@@ -3,8 +3,7 @@ use Rattle.std.proofs.Common.{◌≡◌, ◌≢◌, ℕ, ◌+◌, ◌-◌, ◌*�
 use Rattle.std.specs.List.{list_all}
 use Rattle.std.specs.Char.{is_ascii_digit}
 use Rattle.std.proofs.lemmas.Bool.Decides.{nat_tests}
-use Rattle.baggy_tool.specs.Form.{number_from, number_of}
-use Rattle.baggy_tool.specs.Decimal.{number_within}
+use Rattle.baggy_tool.specs.Decimal.{number_from, number_of, number_within}
 use Rattle.baggy_tool.specs.Words.{steps_of}
 
 -- more digits make no smaller number
@@ -35,17 +34,3 @@ steps_other (d ∷ ds) h = sym (ap (λ (b : Bool). cond b (number_within 1000000
 pub steps_digits : (word : List ℕ) → length word ≢ 0 → list_all is_ascii_digit word ≡ true → number_within 1000000000000 word ≡ steps_of word
 steps_digits [] n h = absurd (n refl)
 steps_digits (d ∷ ds) n h = sym (ap (λ (b : Bool). cond b (number_within 1000000000000 (d ∷ ds)) None) h)
-
--- what is within the bound
-pub number_bounded : (most value : ℕ) (ds : List ℕ) → Some value ≡ number_within most ds → value ≤ most
-number_bounded most value ds h = by (leb (number_of ds) most) refl
-  where
-    by : (b : Bool) → leb (number_of ds) most ≡ b → value ≤ most
-    by true e =
-        let le : number_of ds ≤ most = grind (arith, nat_tests) in
-        let is : Some value ≡ Some (number_of ds) = h ∙ ap (λ (t : Bool). cond t (Some (number_of ds)) None) e in
-        let same : value ≡ number_of ds = cc in
-        omega arith
-    by false e =
-        let is : Some value ≡ None = h ∙ ap (λ (t : Bool). cond t (Some (number_of ds)) None) e in
-        absurd (cc)

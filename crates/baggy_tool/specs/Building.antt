@@ -1,43 +1,26 @@
--- What building an image and reading a file say.
+-- What reading a file, running an image and writing one say.
 use Rattle.std.specs.Prelude.{◌≡◌, ℕ, ◌≤◌, Vec, List, ◌++◌, length, take, drop, Option, Some, None}
 use Rattle.baggy_tool.specs.declared.ending.Ending.{Ending}
-use Rattle.baggy_tool.specs.declared.ending.Ending.TheVariants.{NoFile, FileFault, NoMemory}
+use Rattle.baggy_tool.specs.declared.ending.Ending.TheVariants.{NoFile, FileFault, NoMemory, Refused}
 use Rattle.baggy_tool.specs.Calls.{Streams, RunsTo, WritesTo}
 use Rattle.std.specs.declared.result.Result.{Result}
 use Rattle.std.specs.declared.result.Result.TheVariants.{Ok, Err}
 use Rattle.bb_outside.specs.Causes.{Rose}
 use Rattle.bb_outside.specs.Files.{Told, Untold, Missing, Holds}
 use Rattle.rv_image.specs.declared.image.Image.{Image}
-use Rattle.baggy_tool.specs.declared.build.BuildError.{BuildError}
-use Rattle.baggy_tool.specs.declared.build.BuildError.TheVariants as build
-use Rattle.baggy_tool.specs.declared.form.Summand.{Summand}
 use Rattle.baggy_tool.specs.declared.reader.ReadError.{ReadError}
 use Rattle.baggy_tool.specs.declared.reader.ReadError.TheVariants as read
-use Rattle.baggy_tool.specs.Code.{IsCompiled}
 use Rattle.baggy_tool.specs.Files.{IsFile, IsAbsent}
-use Rattle.baggy_tool.specs.Form.{HasSummands}
-use Rattle.baggy_tool.specs.declared.ending.CompileError.{CompileError}
-use Rattle.baggy_tool.specs.declared.ending.CompileError.TheVariants as compile
+use Rattle.lowering.specs.declared.error.LowerError.TheVariants as lower
+use Rattle.bb_driver.specs.declared.error.CompileError.{CompileError}
+use Rattle.bb_driver.specs.declared.error.CompileError.TheVariants as compile
 use Rattle.baggy_tool.specs.declared.ending.Refusal.TheVariants as refusal
-use Rattle.baggy_tool.specs.Sources.{IsSource}
-use Rattle.baggy_tool.specs.Accepted.{Refuses, IsImageOf}
 
--- want of memory is one error, and each other one a refusal
-abbrev pub of_source : CompileError → BuildError
-of_source compile.Memory = build.Memory
-of_source error = build.Refused (refusal.Source error)
-
--- the image is that of the text's sum, or the refusal is the text's
-abbrev pub BuildsSum : List ℕ → Result Image BuildError → Type 0
-BuildsSum text (Ok image) = IsSource text × (summands : List Summand) × HasSummands text summands × IsCompiled summands image
-BuildsSum text (Err (build.Refused refusal)) = Refuses text refusal
-BuildsSum text (Err build.Memory) = Unit {0}
-
--- the text is accepted with the program of the image, or it is refused so
-abbrev pub Builds : List ℕ → Result Image BuildError → Type 0
-Builds text (Ok image) = IsImageOf text image
-Builds text (Err (build.Refused refusal)) = Refuses text refusal
-Builds text (Err build.Memory) = Unit {0}
+-- how a call ends whose source has no image
+abbrev pub refused : CompileError → Ending
+refused compile.Memory = NoMemory
+refused (compile.Lower lower.NotBuilt) = Refused refusal.NotBuilt
+refused error = Refused (refusal.Source error)
 
 -- the text is the file's, or there is none, or the shelf failed
 abbrev pub FileRead : {A : Type 0} → ℕ → Told → Result (Vec ℕ A) ReadError → Type 0

@@ -16,8 +16,10 @@ use Rattle.baggy_tool.specs.declared.ending.Ended.{Ended}
 use Rattle.baggy_tool.specs.declared.ending.Ending.{Ending}
 use Rattle.baggy_tool.specs.declared.ending.Ending.TheVariants.{Wrote, Checked, Refused, Usage, NoFile, FileFault, NoteFault, NoMemory}
 use Rattle.baggy_tool.specs.declared.ending.Refusal.TheVariants as refusal
-use Rattle.baggy_tool.specs.Sources.{IsSource, RefusesSource}
-use Rattle.baggy_tool.specs.Accepted.{Refuses, IsImageOf}
+use Rattle.bb_driver.specs.Compiles.{IsImageOf}
+use Rattle.bb_driver.specs.Sources.{IsAccepted}
+use Rattle.bb_driver.specs.Sources as driver
+use Rattle.baggy_tool.specs.Accepted.{Refuses}
 use Rattle.baggy_tool.specs.Endings.{status_of, ending_of, line_of}
 use Rattle.baggy_tool.specs.Files.{most_source, most_image, IsFile, IsAbsent}
 use Rattle.baggy_tool.specs.Notes.{IsAppended, IsCutOff}
@@ -102,8 +104,8 @@ AnswersCompile text old new faults faults' None ending = ⊥
 
 -- A source is read alone: it is accepted, or refused.
 abbrev pub AnswersCheck : (text : List ℕ) → Option Image → Ending → Type 0
-AnswersCheck text None Checked = IsSource text
-AnswersCheck text None (Refused (refusal.Source error)) = RefusesSource text error
+AnswersCheck text None Checked = IsAccepted text
+AnswersCheck text None (Refused (refusal.Source error)) = driver.Refuses text error
 AnswersCheck text None NoMemory = Unit {0}
 AnswersCheck text image ending = ⊥
 

@@ -12,8 +12,12 @@ use Rattle.baggy_tool.specs.declared.ending.Ending.{Ending}
 use Rattle.baggy_tool.specs.declared.ending.Ending.TheVariants.{Exited, Reported, Trapped, OutOfSteps, Wrote, Checked, Refused, Usage, NoFile, FileFault, ReadFault, WriteFault, NoteFault, NoMemory}
 use Rattle.baggy_tool.specs.declared.ending.Refusal.{Refusal}
 use Rattle.baggy_tool.specs.declared.ending.Refusal.TheVariants.{Source, Image, NotBuilt}
-use Rattle.baggy_tool.specs.declared.ending.CompileError.{CompileError}
-use Rattle.baggy_tool.specs.declared.ending.CompileError.TheVariants as compile
+use Rattle.bb_driver.specs.declared.error.CompileError.{CompileError}
+use Rattle.bb_driver.specs.declared.error.CompileError.TheVariants as compile
+use Rattle.c_rules.specs.declared.error.TypeError.{TypeError}
+use Rattle.c_rules.specs.declared.error.TypeError.TheVariants as typing
+use Rattle.lowering.specs.declared.error.LowerError.{LowerError}
+use Rattle.lowering.specs.declared.error.LowerError.TheVariants as lower
 use Rattle.c_lexer.specs.declared.fault.LexError.{LexError}
 use Rattle.c_lexer.specs.declared.fault.LexError.TheVariants as lex
 use Rattle.c_parser.specs.declared.parser.ParseError.{ParseError}
@@ -82,9 +86,31 @@ parse_line (parse.Syntax token line) = (codes "baggy: refused Syntax token " ++ 
 parse_line (parse.TooDeep token line) = (codes "baggy: refused TooDeep token " ++ decimal token) ++ numbered (codes " at line ") line
 parse_line parse.Memory = []
 
+-- a text, a name and a line
+abbrev pub named : List ℕ → List ℕ → ℕ → List ℕ
+named text name line = (text ++ name) ++ numbered (codes " at line ") line
+
+abbrev pub typing_line : TypeError → List ℕ
+typing_line (typing.Unknown line name) = named (codes "baggy: refused Unknown ") name line
+typing_line (typing.Twice line name) = named (codes "baggy: refused Twice ") name line
+typing_line (typing.BadType line rule) = (codes "baggy: refused BadType rule " ++ decimal rule) ++ numbered (codes " at line ") line
+typing_line typing.NoMain = codes "baggy: refused NoMain\n"
+typing_line (typing.TooLarge line size) = (codes "baggy: refused TooLarge size " ++ decimal size) ++ numbered (codes " at line ") line
+typing_line (typing.TooManyParams line) = numbered (codes "baggy: refused TooManyParams at line ") line
+typing_line (typing.TooManyFunctions line) = numbered (codes "baggy: refused TooManyFunctions at line ") line
+typing_line typing.Memory = []
+
+abbrev pub lower_line : LowerError → List ℕ
+lower_line (lower.TooManyNodes count) = numbered (codes "baggy: refused TooManyNodes count ") count
+lower_line (lower.TooManyValues name count) = (codes "baggy: refused TooManyValues " ++ name) ++ numbered (codes " count ") count
+lower_line lower.NotBuilt = []
+lower_line lower.Memory = []
+
 abbrev pub compile_line : CompileError → List ℕ
 compile_line (compile.Lex error) = lex_line error
 compile_line (compile.Parse error) = parse_line error
+compile_line (compile.Typing error) = typing_line error
+compile_line (compile.Lower error) = lower_line error
 compile_line compile.Memory = []
 
 abbrev pub image_line : ImageError → List ℕ

@@ -1,9 +1,5 @@
-pub mod Form
-pub mod Reading
 pub mod Decimal
-pub mod Code
 pub mod Words
-pub mod Sources
 pub mod Accepted
 pub mod Endings
 pub mod Files

@@ -2,32 +2,20 @@
 ghost use Rattle.std.specs.Prelude.{◌≡◌};
 ghost use Rattle.baggy_tool.specs.Endings.{status_of, ending_of};
 
+use bb_driver::error::CompileError;
 use bb_words::kinds::{ReportKind, TrapKind};
-use c_lexer::LexError;
-use c_parser::ParseError;
 use rv_image::error::ImageError;
 use rv_image::image::Image;
 use rv_machine::stop::Stop;
 
-/// Why a source has no image.
-#[derive(Debug, Drop)]
-pub enum CompileError {
-    /// The text has no tokens.
-    Lex(LexError),
-    /// The tokens are no file of C.
-    Parse(ParseError),
-    /// No refusal of a call holds this variant: want of memory is the ending `NoMemory`.
-    Memory,
-}
-
 /// Why a file was refused.
 #[derive(Debug, Drop)]
 pub enum Refusal {
-    /// The source has no image.
+    /// The source has no image. No refusal holds the compiler's want of memory, or that the program is not built.
     Source(CompileError),
     /// The bytes are no image. No refusal holds `ImageError::Memory`.
     Image(ImageError),
-    /// The file is no program of the form that is built so far.
+    /// The source is accepted, and its program has a form that is not built.
     NotBuilt,
 }
 

@@ -3,13 +3,10 @@
 //! `run::baggy_run` reads the file, makes its image, runs that on the machine, and notes how the call ended.
 #![tactic(auto)]
 
-mod build;
-mod code;
 mod decimal;
 pub mod ending;
-mod form;
 mod notes;
+mod refusals;
 mod reader;
 pub mod run;
-mod source;
 mod words;

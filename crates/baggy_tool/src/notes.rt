@@ -1,16 +1,14 @@
 //! The line that is noted of an ending.
 ghost use Rattle.std.specs.Prelude.{◌≡◌, ◌++◌, decimal};
 ghost use Rattle.bb_outside.specs.Causes.{HasCause};
-ghost use Rattle.baggy_tool.specs.Endings.{line_of, refusal_line, compile_line, image_line, lex_line, parse_line, numbered, report_name, trap_name};
+ghost use Rattle.baggy_tool.specs.Endings.{line_of, numbered, report_name, trap_name};
 ghost use Rattle.baggy_tool.specs.Notes.{Noted};
 
-use crate::ending::{CompileError, Ending, Refusal};
+use crate::ending::Ending;
+use crate::refusals::note_refusal;
 use bb_outside::{Sink, SinkFailed};
 use bb_words::kinds::{ReportKind, TrapKind};
-use c_lexer::LexError;
-use c_parser::ParseError;
 use itoa::Buffer;
-use rv_image::error::ImageError;
 
 const USAGE: &[u8] =
     b"usage: baggy run|compile|exec|check FILE [--steps N] [--out PATH] [--profile]\n";
@@ -51,102 +49,6 @@ fn note_trap<E: Sink>(notes: &mut E, kind: TrapKind) -> Result<(), SinkFailed>
     put(notes, b"\n")
 }
 
-fn note_refusal<E: Sink>(notes: &mut E, error: &Refusal) -> Result<(), SinkFailed>
-    ensures noted { Noted result (refusal_line error.now) (E.written notes.old) (E.written notes.new) }
-    ensures cause { HasCause (E.faults notes.old) (E.faults notes.new) result }
-{
-    match error {
-        Refusal::Source(error) => note_compile_error(notes, error),
-        Refusal::Image(error) => note_image_error(notes, *error),
-        Refusal::NotBuilt => put(notes, b"baggy: refused NotBuilt\n"),
-    }
-}
-
-fn note_compile_error<E: Sink>(notes: &mut E, error: &CompileError) -> Result<(), SinkFailed>
-    ensures noted { Noted result (compile_line error.now) (E.written notes.old) (E.written notes.new) }
-    ensures cause { HasCause (E.faults notes.old) (E.faults notes.new) result }
-{
-    match error {
-        CompileError::Lex(error) => note_lex_error(notes, *error),
-        CompileError::Parse(error) => note_parse_error(notes, *error),
-        CompileError::Memory => Ok(()),
-    }
-}
-
-fn note_lex_error<E: Sink>(notes: &mut E, error: LexError) -> Result<(), SinkFailed>
-    ensures noted { Noted result (lex_line error) (E.written notes.old) (E.written notes.new) }
-    ensures cause { HasCause (E.faults notes.old) (E.faults notes.new) result }
-{
-    match error {
-        LexError::TooLong { length } => {
-            put_numbered(notes, b"baggy: refused TooLong length ", length)
-        }
-        LexError::BadByte { line } => put_numbered(notes, b"baggy: refused BadByte at line ", line),
-        LexError::BadNumber { line } => {
-            put_numbered(notes, b"baggy: refused BadNumber at line ", line)
-        }
-        LexError::BadEscape { line } => {
-            put_numbered(notes, b"baggy: refused BadEscape at line ", line)
-        }
-        LexError::Unclosed { line } => {
-            put_numbered(notes, b"baggy: refused Unclosed at line ", line)
-        }
-        LexError::BadDirective { line } => {
-            put_numbered(notes, b"baggy: refused BadDirective at line ", line)
-        }
-        LexError::Memory => Ok(()),
-    }
-}
-
-fn note_parse_error<E: Sink>(notes: &mut E, error: ParseError) -> Result<(), SinkFailed>
-    ensures noted { Noted result (parse_line error) (E.written notes.old) (E.written notes.new) }
-    ensures cause { HasCause (E.faults notes.old) (E.faults notes.new) result }
-{
-    match error {
-        ParseError::Syntax { token, line } => {
-            put_two(
-                notes,
-                b"baggy: refused Syntax token ",
-                token,
-                b" at line ",
-                line,
-            )
-        }
-        ParseError::TooDeep { token, line } => {
-            put_two(
-                notes,
-                b"baggy: refused TooDeep token ",
-                token,
-                b" at line ",
-                line,
-            )
-        }
-        ParseError::Memory => Ok(()),
-    }
-}
-
-fn note_image_error<E: Sink>(notes: &mut E, error: ImageError) -> Result<(), SinkFailed>
-    ensures noted { Noted result (image_line error) (E.written notes.old) (E.written notes.new) }
-    ensures cause { HasCause (E.faults notes.old) (E.faults notes.new) result }
-{
-    match error {
-        ImageError::Short { need, have } => put_two(
-            notes,
-            b"baggy: refused Short need ",
-            need,
-            b" have ",
-            have,
-        ),
-        ImageError::BadMagic => put(notes, b"baggy: refused BadMagic\n"),
-        ImageError::BadVersion { version } => {
-            put_numbered(notes, b"baggy: refused BadVersion ", version)
-        }
-        ImageError::BadField { at } => put_numbered(notes, b"baggy: refused BadField at ", at),
-        ImageError::Extra { at } => put_numbered(notes, b"baggy: refused Extra at ", at),
-        ImageError::Memory => Ok(()),
-    }
-}
-
 fn report_name(kind: ReportKind) -> &'static [u8]
     ensures { result.now ≡ report_name kind }
 {
@@ -176,8 +78,8 @@ fn trap_name(kind: TrapKind) -> &'static [u8]
     }
 }
 
-// Writes a text, a number and a line feed.
-fn put_numbered<E: Sink>(notes: &mut E, text: &[u8], number: u32) -> Result<(), SinkFailed>
+/// Writes a text, a number and a line feed.
+pub(crate) fn put_numbered<E: Sink>(notes: &mut E, text: &[u8], number: u32) -> Result<(), SinkFailed>
     ensures noted { Noted result (numbered text.now number) (E.written notes.old) (E.written notes.new) }
     ensures cause { HasCause (E.faults notes.old) (E.faults notes.new) result }
 {
@@ -186,11 +88,11 @@ fn put_numbered<E: Sink>(notes: &mut E, text: &[u8], number: u32) -> Result<(), 
     put_both(notes, buffer.format(number).as_bytes(), b"\n")
 }
 
-// Writes a text and a number, and a second text, a number and a line feed.
-fn put_two<E: Sink>(
+/// Writes a text and a number, and a second text, a number and a line feed.
+pub(crate) fn put_two<E: Sink>(
     notes: &mut E,
     text: &[u8],
-    number: u32,
+    number: u64,
     second: &[u8],
     last: u32,
 ) -> Result<(), SinkFailed>
@@ -202,8 +104,8 @@ fn put_two<E: Sink>(
     put_numbered(notes, second, last)
 }
 
-// Writes one text and then another.
-fn put_both<E: Sink>(notes: &mut E, first: &[u8], second: &[u8]) -> Result<(), SinkFailed>
+/// Writes one text and then another.
+pub(crate) fn put_both<E: Sink>(notes: &mut E, first: &[u8], second: &[u8]) -> Result<(), SinkFailed>
     ensures noted { Noted result (first.now ++ second.now) (E.written notes.old) (E.written notes.new) }
     ensures cause { HasCause (E.faults notes.old) (E.faults notes.new) result }
 {
@@ -211,8 +113,8 @@ fn put_both<E: Sink>(notes: &mut E, first: &[u8], second: &[u8]) -> Result<(), S
     put(notes, second)
 }
 
-// Writes the whole text.
-fn put<E: Sink>(notes: &mut E, text: &[u8]) -> Result<(), SinkFailed>
+/// Writes the whole text.
+pub(crate) fn put<E: Sink>(notes: &mut E, text: &[u8]) -> Result<(), SinkFailed>
     ensures noted { Noted result text.now (E.written notes.old) (E.written notes.new) }
     ensures cause { HasCause (E.faults notes.old) (E.faults notes.new) result }
 {

@@ -5,17 +5,19 @@ ghost use Rattle.bb_outside.specs.Files.{Stays};
 ghost use Rattle.rv_image.specs.Rules.{IsImage};
 ghost use Rattle.baggy_tool.specs.Endings.{status_of};
 ghost use Rattle.baggy_tool.specs.Words.{Run, Exec, Compile, Check, request, request_of};
-ghost use Rattle.baggy_tool.specs.Building.{unread, RunsImage, WritesImage};
+ghost use Rattle.baggy_tool.specs.Building.{refused, unread, RunsImage, WritesImage};
 ghost use Rattle.baggy_tool.specs.Files.{most_source, most_image};
 ghost use Rattle.baggy_tool.specs.Calls.{Meets, AnswersWords, Answers, AnswersRun, AnswersExec, AnswersCompile, AnswersCheck, IsKept, Notes, Streams, files, streams, noting};
 
-use crate::build::{BuildError, build};
-use crate::ending::{CompileError, Ended, Ending, Refusal, ending_of, status_of};
+use crate::ending::{Ended, Ending, Refusal, ending_of, status_of};
 use crate::notes::note;
 use crate::reader::{MAX_IMAGE, MAX_SOURCE, ReadError, read_file};
-use crate::source::read_source;
 use crate::words::{Command, command_in};
+use bb_driver::compile::compile;
+use bb_driver::error::CompileError;
+use bb_driver::source::check;
 use bb_outside::{Shelf, ShelfFailed, Sink, Source};
+use lowering::error::LowerError;
 use rv_image::image::Image;
 use rv_image::{ImageError, read, write};
 use rv_machine::machine::Machine;
@@ -188,9 +190,8 @@ fn run_text<I: Source, O: Sink>(
         (streams (I.left input.new) (I.is_over input.new) (I.faults input.new) (O.written output.new) (O.faults output.new))
         result.image result.ending }
 {
-    match build(alloc, text) {
-        Err(BuildError::Refused(error)) => without_image(Ending::Refused { error }),
-        Err(BuildError::Memory) => without_image(Ending::NoMemory),
+    match compile(alloc, text) {
+        Err(error) => without_image(refused(error)),
         Ok(image) => run_image(alloc, image, steps, input, output),
     }
 }
@@ -225,9 +226,8 @@ fn write_text<F: Shelf>(alloc: Global, text: &[u8], path: &str, shelf: &mut F) -
     ensures others { (other : List ℕ) → other ≢ path.now → Stays (F.file shelf.old other) (F.file shelf.new other) }
     ensures unwritten { result.image ≡ None → (other : List ℕ) → Stays (F.file shelf.old other) (F.file shelf.new other) }
 {
-    match build(alloc, text) {
-        Err(BuildError::Refused(error)) => without_image(Ending::Refused { error }),
-        Err(BuildError::Memory) => without_image(Ending::NoMemory),
+    match compile(alloc, text) {
+        Err(error) => without_image(refused(error)),
         Ok(image) => write_image(alloc, image, path, shelf),
     }
 }
@@ -237,12 +237,9 @@ fn check_text(alloc: Global, text: &[u8]) -> Ending
     requires { length text.now ≤ most_source + 1 }
     ensures { AnswersCheck text.now None result }
 {
-    match read_source(alloc, text) {
-        Err(CompileError::Memory) => Ending::NoMemory,
-        Err(error) => Ending::Refused {
-            error: Refusal::Source(error),
-        },
-        Ok(_) => Ending::Checked,
+    match check(alloc, text) {
+        Err(error) => refused(error),
+        Ok(()) => Ending::Checked,
     }
 }
 
@@ -282,6 +279,21 @@ fn write_image<F: Shelf>(alloc: Global, image: Image, path: &str, shelf: &mut F)
             Ok(()) => with_image(Ending::Wrote, image),
             Err(ShelfFailed::Fault) => with_image(Ending::FileFault, image),
             Err(ShelfFailed::Memory) => with_image(Ending::NoMemory, image),
+        },
+    }
+}
+
+// How a call ends whose source has no image.
+fn refused(error: CompileError) -> Ending
+    ensures { result ≡ refused error }
+{
+    match error {
+        CompileError::Memory => Ending::NoMemory,
+        CompileError::Lower(LowerError::NotBuilt) => Ending::Refused {
+            error: Refusal::NotBuilt,
+        },
+        error => Ending::Refused {
+            error: Refusal::Source(error),
         },
     }
 }

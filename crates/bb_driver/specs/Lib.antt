@@ -1,3 +1,5 @@
 pub mod Same
 pub mod Right
 pub mod Laws
+pub mod Sources
+pub mod Compiles

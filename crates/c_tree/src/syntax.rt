@@ -5,7 +5,11 @@
 //! of one operand is no node. Each node says where it stands by its `at`: an operator at its own token, a call at the
 //! called name (else at its `(`), a declarator at the declared name (else at the first word of its specifier), any
 //! other node at its first token.
+//!
+//! A node of several forms has its `Drop` by hand, so that letting it go is a call where it happens, and not the cases of
+//! all its forms.
 
+mod construction;
 pub mod declarations;
 pub mod declarators;
 pub mod expressions;

@@ -3,13 +3,11 @@ pub mod Steps
 pub mod Refusals
 pub mod Arguments
 pub mod InTurn
-pub mod SmallFiles
 pub mod Pushed
 pub mod InScopes
 pub mod Layouts
-pub mod AllMarks
-pub mod Wholes
 pub mod Initials
 pub mod GivenCounts
 pub mod ForLoops
 pub mod Forms
+pub mod CallMarks

@@ -11,6 +11,3 @@ pub mod InitializerSteps
 pub mod Statements
 pub mod StatementSteps
 pub mod Marks
-pub mod Units
-pub mod UnitSteps
-pub mod Examples

@@ -1,5 +1,5 @@
 //! The steps of declarators, and the types that they make (C11 6.7.6).
-ghost use Rattle.std.specs.Prelude.{◌≡◌, map, Ok};
+ghost use Rattle.std.specs.Prelude.{◌≡◌, map, reverse, Ok};
 ghost use Rattle.c_typed.specs.Sizes as sizes;
 ghost use Rattle.c_typed.specs.TypesViewed.{ty_of};
 ghost use Rattle.c_typed.specs.TypedViews.{expr_of, struct_of};
@@ -165,7 +165,7 @@ fn made_by(
 }
 
 /// What the steps make of the type, one after the other.
-pub fn made(
+fn made(
     alloc: Global,
     structs: &[StructType],
     line: u32,
@@ -181,8 +181,24 @@ pub fn made(
     Ok(ty)
 }
 
+/// The type that the steps make of the specifier's, from the specifier towards the name.
+#[tactic(auto, using(crate::proofs::Steps::parts_reversed))]
+pub fn made_from(
+    alloc: Global,
+    structs: &[StructType],
+    line: u32,
+    base: Ty,
+    parts: Vec<Part>,
+) -> Result<Ty, TypeError>
+    ensures { Gives ty_of result (spec.made (map struct_of structs.now) line (ty_of base) (reverse (spec.parts_of parts.items))) }
+{
+    let mut parts = parts;
+    parts.reverse();
+    made(alloc, structs, line, base, parts.as_slice())
+}
+
 /// The type that a declarator makes of the specifier's type, as that of an object or as a type alone.
-#[tactic(auto, using(crate::proofs::Steps::parts_reversed), unfolding(crate::specs::Parts::formed))]
+#[tactic(auto, unfolding(crate::specs::Parts::formed))]
 pub fn formed(
     alloc: Global,
     structs: &[StructType],
@@ -202,7 +218,5 @@ pub fn formed(
     if lacks_size(parts.as_slice()) {
         return Err(TypeError::BadType { line, rule: 3 });
     }
-    let mut parts = parts;
-    parts.reverse();
-    made(alloc, structs, line, base, parts.as_slice())
+    made_from(alloc, structs, line, base, parts)
 }

@@ -1,12 +1,5 @@
-//! Mid code and flat code together: where there is the one there is the other, what small programs come to, and what is as
-//! large as the limits allow.
+//! Mid code and flat code together: what small programs come to, and what is as large as the limits allow.
 ghost use Rattle.middle_tests.specs.Examples.{Examples, Limits};
-ghost use Rattle.middle_tests.specs.Laws.{CodeIsBuilt};
-
-/// The mid code of a program of numbers has flat code.
-pub fn code_is_built()
-    ensures { CodeIsBuilt }
-{}
 
 /// What the mid code and the flat code of small programs of numbers come to.
 pub fn examples_run()

@@ -1,5 +1,6 @@
 //! Whether an access may be done, and the words of what it reads.
 ghost use Rattle.std.specs.Prelude.{◌≡◌, ◌+◌, ◌*◌, ◌%◌, ◌<◌, ◌≤◌, IfNone};
+ghost use Rattle.size_table.specs.declared.memory_map.TheConstants.{TABLE_START, MEMORY_END};
 ghost use Rattle.rv_code.specs.Bits.{extended};
 ghost use Rattle.rv_machine.specs.Instruction.{access_trap};
 
@@ -10,7 +11,7 @@ use size_table::memory_map::{MEMORY_END, TABLE_START, TEXT_START};
 pub(crate) fn trap_of(at: u32, size: u32) -> Option<TrapKind>
     requires { (0 < size) × (size ≤ 4) }
     ensures value { result ≡ access_trap at size }
-    ensures within { IfNone result ((2097152 ≤ at) × (at < 33554432)) }
+    ensures within { IfNone result ((TABLE_START ≤ at) × (at < MEMORY_END)) }
     ensures aligned { IfNone result (at % size ≡ 0) }
 {
     if at >= TABLE_START && at < MEMORY_END && at % size == 0 {

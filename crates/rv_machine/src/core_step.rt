@@ -32,16 +32,18 @@ pub struct Core {
 
 impl Model for Core {
     ghost use Rattle.std.specs.Prelude.{◌≡◌, vec_len};
+    ghost use Rattle.size_table.specs.declared.memory_map.TheConstants.{MEMORY_END};
     ghost use Rattle.rv_machine.specs.State.{Core as CoreState};
 
     ghost Value = { CoreState };
 
     ghost view = { λ c. record { pc = c.pc; registers = c.registers.items; memory = c.memory.items } };
 
-    ghost invariant = { λ c. (vec_len c.registers ≡ 32) × (vec_len c.memory ≡ 33554432) };
+    ghost invariant = { λ c. (vec_len c.registers ≡ 32) × (vec_len c.memory ≡ MEMORY_END) };
 }
 
 impl Core {
+    ghost use Rattle.size_table.specs.declared.memory_map.TheConstants.{TABLE_START, MEMORY_END};
     ghost use Rattle.size_table.specs.Blocks.{Block, IsBlock, block_at};
     ghost use Rattle.size_table.specs.Table.{filled};
     ghost use Rattle.size_table.specs.Made.{made, ended};
@@ -91,7 +93,7 @@ impl Core {
     }
 
     pub(crate) fn byte(&self, at: u32) -> u8
-        requires { at < 33554432 }
+        requires { at < MEMORY_END }
         ensures { result ≡ slice_index self.now.memory at }
     {
         self.memory[at as usize]
@@ -121,7 +123,7 @@ impl Core {
     #[tactic(auto, unfolding(crate::specs::Instruction::core_step))]
     fn step(&mut self) -> Effect
         ensures does { Does self.old self.new result (core_step self.old) }
-        ensures in_text { result ≡ Effect.Asked → self.new.pc < 2097152 }
+        ensures in_text { result ≡ Effect.Asked → self.new.pc < TABLE_START }
     {
         if self.pc < TEXT_START || self.pc >= TABLE_START {
             return Effect::Trapped {
@@ -149,7 +151,7 @@ impl Core {
     #[inline(always)]
     fn execute(&mut self, instr: Instr) -> Effect
         requires fit { Fits instr }
-        requires in_text { self.old.pc < 2097152 }
+        requires in_text { self.old.pc < TABLE_START }
         ensures { Does self.old self.new result (effect instr self.old) }
     {
         match instr {
@@ -263,7 +265,7 @@ impl Core {
     // A register gets a value.
     fn put(&mut self, rd: u8, value: Word) -> Effect
         requires within { rd < 32 }
-        requires in_text { self.old.pc < 2097152 }
+        requires in_text { self.old.pc < TABLE_START }
         ensures went { result ≡ Effect.Went }
         ensures value { self.new ≡ gives rd value.0 self.old }
     {
@@ -286,7 +288,7 @@ impl Core {
     // A jump that leaves the address of the next instruction in a register.
     fn link(&mut self, rd: u8, to: u32) -> Effect
         requires within { rd < 32 }
-        requires in_text { self.old.pc < 2097152 }
+        requires in_text { self.old.pc < TABLE_START }
         ensures { Does self.old self.new result (links rd to self.old) }
     {
         let next = self.pc + 4;
@@ -298,7 +300,7 @@ impl Core {
     }
 
     fn branch(&mut self, taken: bool, imm: u32) -> Effect
-        requires { self.old.pc < 2097152 }
+        requires { self.old.pc < TABLE_START }
         ensures { Does self.old self.new result (branches taken imm self.old) }
     {
         if taken {
@@ -311,7 +313,7 @@ impl Core {
 
     fn load_signed_byte(&mut self, rd: u8, at: u32) -> Effect
         requires within { rd < 32 }
-        requires in_text { self.old.pc < 2097152 }
+        requires in_text { self.old.pc < TABLE_START }
         ensures { Does self.old self.new result (loads rd at 1 (extended 8 (slice_index self.old.memory at)) self.old) }
     {
         match trap_of(at, 1) {
@@ -325,7 +327,7 @@ impl Core {
 
     fn load_signed_half(&mut self, rd: u8, at: u32) -> Effect
         requires within { rd < 32 }
-        requires in_text { self.old.pc < 2097152 }
+        requires in_text { self.old.pc < TABLE_START }
         ensures { Does self.old self.new result (loads rd at 2 (extended 16 (half_at self.old.memory at)) self.old) }
     {
         match trap_of(at, 2) {
@@ -339,7 +341,7 @@ impl Core {
 
     fn load_word(&mut self, rd: u8, at: u32) -> Effect
         requires within { rd < 32 }
-        requires in_text { self.old.pc < 2097152 }
+        requires in_text { self.old.pc < TABLE_START }
         ensures { Does self.old self.new result (loads rd at 4 (word_at self.old.memory at) self.old) }
     {
         match trap_of(at, 4) {
@@ -353,7 +355,7 @@ impl Core {
 
     fn load_byte(&mut self, rd: u8, at: u32) -> Effect
         requires within { rd < 32 }
-        requires in_text { self.old.pc < 2097152 }
+        requires in_text { self.old.pc < TABLE_START }
         ensures { Does self.old self.new result (loads rd at 1 (slice_index self.old.memory at) self.old) }
     {
         match trap_of(at, 1) {
@@ -367,7 +369,7 @@ impl Core {
 
     fn load_half(&mut self, rd: u8, at: u32) -> Effect
         requires within { rd < 32 }
-        requires in_text { self.old.pc < 2097152 }
+        requires in_text { self.old.pc < TABLE_START }
         ensures { Does self.old self.new result (loads rd at 2 (half_at self.old.memory at) self.old) }
     {
         match trap_of(at, 2) {
@@ -380,7 +382,7 @@ impl Core {
     }
 
     fn store_byte(&mut self, at: u32, value: u32) -> Effect
-        requires { self.old.pc < 2097152 }
+        requires { self.old.pc < TABLE_START }
         ensures { Does self.old self.new result (stores at 1 (value % 256 ∷ []) self.old) }
     {
         match trap_of(at, 1) {
@@ -394,7 +396,7 @@ impl Core {
     }
 
     fn store_half(&mut self, at: u32, value: u32) -> Effect
-        requires { self.old.pc < 2097152 }
+        requires { self.old.pc < TABLE_START }
         ensures { Does self.old self.new result (stores at 2 (to_le_bytes w16 (value % 65536)) self.old) }
     {
         match trap_of(at, 2) {
@@ -409,7 +411,7 @@ impl Core {
     }
 
     fn store_word(&mut self, at: u32, value: u32) -> Effect
-        requires { self.old.pc < 2097152 }
+        requires { self.old.pc < TABLE_START }
         ensures { Does self.old self.new result (stores at 4 (to_le_bytes w32 value) self.old) }
     {
         match trap_of(at, 4) {
@@ -426,7 +428,7 @@ impl Core {
     /// A register gets a value, and the next instruction comes.
     pub(crate) fn give(&mut self, rd: u8, value: u32)
         requires within { rd < 32 }
-        requires in_text { self.old.pc < 2097152 }
+        requires in_text { self.old.pc < TABLE_START }
         ensures { self.new ≡ gives rd value self.old }
     {
         self.set(rd, value);
@@ -445,7 +447,7 @@ impl Core {
 
     /// The next instruction comes.
     pub(crate) fn pass(&mut self)
-        requires { self.old.pc < 2097152 }
+        requires { self.old.pc < TABLE_START }
         ensures { self.new ≡ next self.old }
     {
         self.pc += 4;
@@ -453,7 +455,7 @@ impl Core {
 
     #[tactic(auto, unfolding(size_table::specs::Table::filled))]
     fn fill(&mut self, at: usize, count: usize, byte: u8)
-        requires { at + count ≤ 33554432 }
+        requires { at + count ≤ MEMORY_END }
         ensures { self.new ≡ with_memory (filled self.old.memory at count byte) self.old }
     {
         self.memory[at..at + count].fill(byte);

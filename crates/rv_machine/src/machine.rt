@@ -40,6 +40,7 @@ impl Model for Machine {
 }
 
 impl Machine {
+    ghost use Rattle.size_table.specs.declared.memory_map.TheConstants.{TABLE_START, MEMORY_END};
     ghost use Rattle.rv_machine.specs.declared.stop.Halt.TheVariants.{Trapped};
     ghost use Rattle.rv_machine.specs.State.{register_of, halted};
     ghost use Rattle.rv_machine.specs.Instruction.{Asks, core_step};
@@ -107,7 +108,7 @@ impl Machine {
 
     /// A byte of the memory.
     pub fn byte(&self, at: u32) -> u8
-        requires { at < 33554432 }
+        requires { at < MEMORY_END }
         ensures { result ≡ slice_index self.now.core.memory at }
     {
         self.core.byte(at)
@@ -243,7 +244,7 @@ impl Machine {
     fn call<I: Source, O: Sink>(&mut self, input: &mut I, output: &mut O) -> Option<Fault>
         requires running { self.old.ending ≡ None }
         requires asks { core_step self.old.core ≡ Asks }
-        requires in_text { self.old.core.pc < 2097152 }
+        requires in_text { self.old.core.pc < TABLE_START }
         ensures stepped { Stepped result calls
             self.old (record { left = I.left input.old; is_over = I.is_over input.old; written = O.written output.old })
             self.new (record { left = I.left input.new; is_over = I.is_over input.new; written = O.written output.new }) }
@@ -298,7 +299,7 @@ impl Machine {
 
     // The run ends by a report, with the line in x11.
     fn end_by(&mut self, kind: ReportKind)
-        requires { self.old.core.pc < 2097152 }
+        requires { self.old.core.pc < TABLE_START }
         ensures { self.new ≡ reported kind self.old }
     {
         let line = self.core.register(11);
@@ -308,7 +309,7 @@ impl Machine {
 
     // The program reports a kind by its number in x10.
     fn report(&mut self)
-        requires { self.old.core.pc < 2097152 }
+        requires { self.old.core.pc < TABLE_START }
         ensures { self.new ≡ reports self.old }
     {
         match kind_of(self.core.register(10)) {
@@ -319,7 +320,7 @@ impl Machine {
 
     // Enters the frame whose number is in x10, and x10 becomes the new stack number.
     fn enter(&mut self)
-        requires { self.old.core.pc < 2097152 }
+        requires { self.old.core.pc < TABLE_START }
         ensures { self.new ≡ enters self.old }
     {
         let frame = self.core.register(10);
@@ -333,7 +334,7 @@ impl Machine {
 
     // Leaves the frame whose number is in x10, and x10 becomes the stack number that it goes back to.
     fn leave(&mut self)
-        requires { self.old.core.pc < 2097152 }
+        requires { self.old.core.pc < TABLE_START }
         ensures { self.new ≡ leaves self.old }
     {
         let frame = self.core.register(10);
@@ -346,7 +347,7 @@ impl Machine {
     // Makes a block for a size, which is in x10, and x10 becomes its base, or 0.
     #[tactic(auto, unfolding(crate::specs::Environment::new_block))]
     fn malloc(&mut self)
-        requires { self.old.core.pc < 2097152 }
+        requires { self.old.core.pc < TABLE_START }
         ensures { self.new ≡ mallocs self.old }
     {
         let size = self.core.register(10);
@@ -366,7 +367,7 @@ impl Machine {
 
     // Ends the block that begins at x10.
     fn free(&mut self)
-        requires { self.old.core.pc < 2097152 }
+        requires { self.old.core.pc < TABLE_START }
         ensures { self.new ≡ frees self.old }
     {
         let at = self.core.register(10);
@@ -384,7 +385,7 @@ impl Machine {
     }
 
     fn exit(&mut self)
-        requires { self.old.core.pc < 2097152 }
+        requires { self.old.core.pc < TABLE_START }
         ensures { self.new ≡ exits self.old }
     {
         let status = (self.core.register(10) % 256) as u8;
@@ -394,7 +395,7 @@ impl Machine {
 
     // x10 becomes the next byte of the input, or all ones at its end.
     fn getchar<I: Source>(&mut self, input: &mut I) -> Result<(), SourceFailed>
-        requires { self.old.core.pc < 2097152 }
+        requires { self.old.core.pc < TABLE_START }
         ensures answered { (written : Option (List ℕ)) → Answered result gets
             self.old (record { left = I.left input.old; is_over = I.is_over input.old; written = written })
             self.new (record { left = I.left input.new; is_over = I.is_over input.new; written = written }) }
@@ -415,7 +416,7 @@ impl Machine {
 
     // The low byte of x10 is written, and x10 becomes that byte.
     fn putchar<O: Sink>(&mut self, output: &mut O) -> Result<(), SinkFailed>
-        requires { self.old.core.pc < 2097152 }
+        requires { self.old.core.pc < TABLE_START }
         ensures answered { (left : Option (List ℕ)) (is_over : Bool) → Answered result puts
             self.old (record { left = left; is_over = is_over; written = O.written output.old })
             self.new (record { left = left; is_over = is_over; written = O.written output.new }) }

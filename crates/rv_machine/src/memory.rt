@@ -1,5 +1,6 @@
 //! Bytes and words in memory.
 ghost use Rattle.std.specs.Prelude.{◌≡◌, ◌+◌, ◌-◌, ◌*◌, ◌^◌, ◌≤◌, length, replicate, vec_len, IfOk, All};
+ghost use Rattle.size_table.specs.declared.memory_map.TheConstants.{MEMORY_END};
 ghost use Rattle.size_table.specs.Blocks.{IsBlock, block_at};
 ghost use Rattle.size_table.specs.Made.{tabled};
 ghost use Rattle.rv_machine.specs.State.{memory_size};
@@ -15,7 +16,7 @@ const MEMORY_SIZE: usize = 33_554_432;
 #[tactic(auto, unfolding(crate::specs::State::memory_size))]
 pub(crate) fn zeros(alloc: Global) -> Result<Vec<u8>, AllocError>
     ensures items { IfOk result (λ memory. memory.items ≡ replicate memory_size 0) }
-    ensures len { IfOk result (λ memory. vec_len memory ≡ 33554432) }
+    ensures len { IfOk result (λ memory. vec_len memory ≡ MEMORY_END) }
 {
     zeros_of(alloc, MEMORY_SIZE)
 }
@@ -90,7 +91,7 @@ pub(crate) fn write_table(memory: &mut [u8], at: usize, exponents: &[u8])
 
 /// A block begins: each of its slots has its exponent in the size table.
 pub(crate) fn set_in_table(memory: &mut [u8], base: u32, exponent: u8)
-    requires size { length memory.old ≡ 33554432 }
+    requires size { length memory.old ≡ MEMORY_END }
     requires block { IsBlock 4 (block_at base exponent) }
     ensures { memory.new ≡ tabled exponent (block_at base exponent) memory.old }
 {
@@ -103,7 +104,7 @@ pub(crate) fn set_in_table(memory: &mut [u8], base: u32, exponent: u8)
 
 /// A block ends: each of its slots has 0 in the size table.
 pub(crate) fn clear_in_table(memory: &mut [u8], base: u32, exponent: u8)
-    requires size { length memory.old ≡ 33554432 }
+    requires size { length memory.old ≡ MEMORY_END }
     requires block { IsBlock 4 (block_at base exponent) }
     ensures { memory.new ≡ tabled 0 (block_at base exponent) memory.old }
 {

@@ -36,7 +36,7 @@ single n l = if n == l then 1 else 0
 among_below : (n count l : ℕ) → l < n → among n count l ≡ 0
 among_below n count l lt = ap (λ b. if b then 0 else if nat_lt l (n + count) then 1 else 0) (lt-ltb l n lt)
 
-among_in : (n count l : ℕ) → n ≤ l → l < n + count → among n count l ≡ 1
+pub among_in : (n count l : ℕ) → n ≤ l → l < n + count → among n count l ≡ 1
 among_in n count l le lt = ap (λ b. if b then 0 else if nat_lt l (n + count) then 1 else 0) (le-ltb l n le) ∙ ap (λ b. if b then 1 else 0) (lt-ltb l (n + count) lt)
 
 among_above : (n count l : ℕ) → n + count ≤ l → among n count l ≡ 0

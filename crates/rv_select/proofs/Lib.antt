@@ -1,4 +1,8 @@
 pub mod Emitted
+mod Encodable
 pub mod Labels
 pub mod Leading
+pub mod Read
+mod Resolvable
 pub mod Sizes
+mod Sound

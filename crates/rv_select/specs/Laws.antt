@@ -1,9 +1,12 @@
 -- What holds of the parts that are selected.
-use Rattle.std.specs.Prelude.{◌≡◌, ℕ, ◌+◌, ◌≤◌, nat_lt, if◌then◌else◌, length}
+use Rattle.std.specs.Prelude.{◌≡◌, ℕ, ◌+◌, ◌≤◌, nat_lt, if◌then◌else◌, List, length}
+use Rattle.size_table.specs.Blocks.{Block}
 use Rattle.flat_code.specs.Code.{FCode}
 use Rattle.flat_code.specs.Weight.{weight}
-use Rattle.rv_asm.specs.Parts.{long_sizes, times_in}
+use Rattle.flat_verify.specs.Discipline.{IsDisciplined}
+use Rattle.rv_asm.specs.Parts.{long_sizes, times_in, AreParts}
 use Rattle.rv_select.specs.Selection.{functions_labels, selected}
+use Rattle.rv_select.specs.Words.{HasWords}
 
 -- The parts need at most as many bytes as the code weighs, with every branch and jump in its longest form.
 abbrev pub PartsAreLight : Type 0
@@ -17,3 +20,10 @@ among n count l = if nat_lt l n then 0 else if nat_lt l (n + count) then 1 else 
 abbrev pub LabelsStandOnce : Type 0
 LabelsStandOnce =
     (g : ℕ) (code : FCode) (l : ℕ) → times_in l (selected g code) ≡ among 0 (length code.functions + functions_labels g code.functions) l
+
+-- Where the code keeps the discipline, its numbers are words, and it weighs no more than a text has room for, the parts can
+-- be resolved: each field fits, and each label that a part goes to stands once.
+abbrev pub PartsAreResolvable : Type 0
+PartsAreResolvable =
+    (g : ℕ) (globals : List Block) (code : FCode) → 2 ≤ g → g ≤ 24 → IsDisciplined g globals code → HasWords code → weight g code ≤ 2093056
+    → AreParts (selected g code)

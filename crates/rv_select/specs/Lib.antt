@@ -4,4 +4,5 @@ pub mod Checks
 pub mod Selection
 pub mod Straight
 pub mod Follows
+pub mod Words
 pub mod Laws

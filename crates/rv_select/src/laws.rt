@@ -1,6 +1,6 @@
 //! What holds of the parts that are selected, for what stands on it.
 ghost use Rattle.rv_select.specs.Follows.{StepsLead};
-ghost use Rattle.rv_select.specs.Laws.{PartsAreLight, LabelsStandOnce};
+ghost use Rattle.rv_select.specs.Laws.{PartsAreLight, LabelsStandOnce, PartsAreResolvable};
 
 /// The parts need at most as many bytes as the code weighs, with every branch and jump in its longest form.
 pub fn parts_are_light()
@@ -15,4 +15,9 @@ pub fn steps_lead()
 /// Each label that the parts have stands once.
 pub fn labels_stand_once()
     ensures { LabelsStandOnce }
+{}
+
+/// The parts of disciplined code whose numbers are words, and that weighs no more than a text has room for, can be resolved.
+pub fn parts_are_resolvable()
+    ensures { PartsAreResolvable }
 {}

@@ -11,3 +11,4 @@ mod items;
 pub mod laws;
 pub mod select;
 mod steps;
+mod words;

@@ -65,11 +65,11 @@ const WORDS: [(&[&str], u8, &str); 28] = [
         123,
         "baggy: out of steps\n",
     ),
-    (&["run", "f.c", "--steps", "5"], 42, ""),
-    (&["--steps", "5", "run", "f.c"], 42, ""),
-    (&["run", "--steps", "5", "f.c"], 42, ""),
-    (&["run", "--steps=5", "f.c"], 42, ""),
-    (&["run", "--steps", "5", "--", "f.c"], 42, ""),
+    (&["run", "f.c", "--steps", "500"], 42, ""),
+    (&["--steps", "500", "run", "f.c"], 42, ""),
+    (&["run", "--steps", "500", "f.c"], 42, ""),
+    (&["run", "--steps=500", "f.c"], 42, ""),
+    (&["run", "--steps", "500", "--", "f.c"], 42, ""),
     (&["compile", "--out=p", "f.c"], 0, ""),
     (&["run", "f.c", "--steps", "1000000000000"], 42, ""),
     (&["run", "f.c", "--steps", "1000000000001"], 125, USAGE),
@@ -107,17 +107,9 @@ fn words_are_read(rt: HostRuntime) -> Result<(), Fail> {
 
 const NOT_BUILT: &str = "baggy: refused NotBuilt\n";
 
-// A text, the statuses of its run and of its check, and the notes of each.
-const TEXTS: [(&str, u8, &str, u8, &str); 17] = [
-    ("int main(void) { return 40 + 2; }", 42, "", 0, ""),
-    ("int main(void) { return 1 - 300; }", 213, "", 0, ""),
-    (
-        "int main(void) { return 1 - (2 - 3) - 300; }",
-        214,
-        "",
-        0,
-        "",
-    ),
+// A text, the statuses of its run and of its check, and the notes of each. Nothing is read or written.
+const TEXTS: [(&str, u8, &str, u8, &str); 26] = [
+    ("int main(void) { return 1 - (2 - 3) - 300; }", 214, "", 0, ""),
     (
         "int main(void){return 2147483647 + 2147483647 + 4;}",
         2,
@@ -125,17 +117,39 @@ const TEXTS: [(&str, u8, &str, u8, &str); 17] = [
         0,
         "",
     ),
-    ("int main(void){return(1);}", 1, "", 0, ""),
     (
-        "\nint\tmain ( void ) { return 2147483647 ; } \n",
+        "\nint\tmain ( void ) { return 2147483647 ; } \r\n",
         255,
         "",
         0,
         "",
     ),
-    ("int main(void){return 01;}", 124, NOT_BUILT, 0, ""),
-    ("int main(void){return 1u;}", 124, NOT_BUILT, 0, ""),
-    ("int main(void){return -1;}\r\n", 124, NOT_BUILT, 0, ""),
+    ("int main(void){return 010 + 0x10 + 'a';}", 121, "", 0, ""),
+    (DEEP, 0, "", 0, ""),
+    (TOO_DEEP, 121, "baggy: report Depth at line 1\n", 0, ""),
+    (LEAST, 1, "", 0, ""),
+    (CONVERTED, 3, "", 0, ""),
+    (
+        "int main(void) { return (1 << 33) + (-8 >> 1) + 10; }",
+        8,
+        "",
+        0,
+        "",
+    ),
+    (
+        "void f(void) { exit(300); } int main(void) { f(); return 1; }",
+        44,
+        "",
+        0,
+        "",
+    ),
+    (
+        "int z(void) { return 0; }\nint main(void) {\n  return 7 / z(); }",
+        121,
+        "baggy: report DivZero at line 3\n",
+        0,
+        "",
+    ),
     (
         "int main(void){return 1;} // one\nint x;",
         124,
@@ -143,7 +157,26 @@ const TEXTS: [(&str, u8, &str, u8, &str); 17] = [
         0,
         "",
     ),
-    ("", 124, NOT_BUILT, 0, ""),
+    (
+        "int main(void) { int x; int *p; p = &x; return 0; }",
+        124,
+        NOT_BUILT,
+        0,
+        "",
+    ),
+    ("", 124, NO_MAIN, 124, NO_MAIN),
+    ("int main(void) { return x; }", 124, UNKNOWN, 124, UNKNOWN),
+    ("int x; int x;", 124, TWICE, 124, TWICE),
+    (
+        "int main(void) { int *p = 5; return 0; }",
+        124,
+        NOT_GIVEN,
+        124,
+        NOT_GIVEN,
+    ),
+    ("char a[1048577];", 124, TOO_MUCH, 124, TOO_MUCH),
+    (MANY_PARAMS, 124, TOO_MANY, 124, TOO_MANY),
+    ("int main(void) { return 1 }", 124, NO_SEMICOLON, 124, NO_SEMICOLON),
     ("return", 124, AT_START, 124, AT_START),
     (
         "int main(void){return (1;}",
@@ -164,6 +197,34 @@ const TEXTS: [(&str, u8, &str, u8, &str); 17] = [
     ("/*", 124, NO_END, 124, NO_END),
 ];
 
+// 4,096 calls at once, and one more.
+const DEEP: &str = "int f(int n) { if (n == 0) return 0; return f(n - 1); } int main(void) { return f(4094); }";
+
+const TOO_DEEP: &str = "int f(int n) { if (n == 0) return 0; return f(n - 1); } int main(void) { return f(4095); }";
+
+// The least number by -1.
+const LEAST: &str = "int main(void) { int m = -2147483647 - 1; int d = -1; return m / d == m && m % d == 0; }";
+
+// A char keeps the lowest byte, an unsigned wraps around, and -1 is compared as the greatest unsigned.
+const CONVERTED: &str =
+    "int main(void) { char c = 300; unsigned u = 0; return (c == 44) + 2 * (u - 1 > 0) + 4 * (-1 < u); }";
+
+const MANY_PARAMS: &str = "void f(int a, int b, int c, int d, int e, int f, int g, int h, int i);";
+
+const NO_MAIN: &str = "baggy: refused NoMain\n";
+
+const UNKNOWN: &str = "baggy: refused Unknown x at line 1\n";
+
+const TWICE: &str = "baggy: refused Twice x at line 1\n";
+
+const NOT_GIVEN: &str = "baggy: refused BadType rule 10 at line 1\n";
+
+const TOO_MUCH: &str = "baggy: refused TooLarge size 1048577 at line 1\n";
+
+const TOO_MANY: &str = "baggy: refused TooManyParams at line 1\n";
+
+const NO_SEMICOLON: &str = "baggy: refused Syntax token 8 at line 1\n";
+
 const AT_START: &str = "baggy: refused Syntax token 0 at line 1\n";
 
 const NO_BRACKET: &str = "baggy: refused Syntax token 9 at line 1\n";
@@ -183,6 +244,87 @@ fn texts_are_run(rt: HostRuntime) -> Result<(), Fail> {
         assert_eq!(rt; got, Some(*run), "{text}");
         let got = status(rt.alloc(), &["check", "f.c"], text.as_bytes(), checked)?;
         assert_eq!(rt; got, Some(*check), "{text}");
+    }
+    Ok(())
+}
+
+// The status of a run with this input, if it notes nothing and writes this.
+fn status_of_run(
+    alloc: Global,
+    text: &str,
+    input: &[u8],
+    written: &[u8],
+) -> Result<Option<u8>, AllocError> {
+    let mut shelf = MemShelf::new(alloc, &[])?;
+    shelf.add("f.c", text.as_bytes())?;
+    let words = words_of(alloc, &["run", "f.c"])?;
+    let mut input = MemSource::new(alloc, input, &[])?;
+    let mut output = MemSink::new(alloc, 1000, &[])?;
+    let mut notes = MemSink::new(alloc, 100, &[])?;
+    let Ended { status, .. } = baggy_run(
+        alloc,
+        &words,
+        &mut shelf,
+        &mut input,
+        &mut output,
+        &mut notes,
+    );
+    if notes.bytes().is_empty() && output.bytes() == written {
+        Ok(Some(status))
+    } else {
+        Ok(None)
+    }
+}
+
+// A text, its input, its output and its status.
+const TALKS: [(&str, &[u8], &[u8], u8); 4] = [
+    (ECHO, b"", b"", 0),
+    (ECHO, b"ab\n\x00\xff", b"ab\n\x00\xff", 0),
+    (
+        "int g(int c) { putchar(c); return c; } int main(void) { return g('a') - g('b') + 1; }",
+        b"",
+        b"ab",
+        0,
+    ),
+    (GCD, b"84 30\n", b"6\n", 0),
+];
+
+const ECHO: &str =
+    "int main(void) { int c; while ((c = getchar()) != EOF) putchar(c); return 0; }";
+
+// The greatest common divisor of two numbers of the input.
+const GCD: &str = "int read(void) { int n = 0; int c; while ((c = getchar()) >= '0' && c <= '9') n = n * 10 + c - '0'; return n; }
+void print(int n) { if (n >= 10) print(n / 10); putchar('0' + n % 10); }
+int main(void) { int a = read(); int b = read(); while (b != 0) { int r = a % b; a = b; b = r; } print(a); putchar('\n'); return 0; }";
+
+#[test]
+fn programs_talk(rt: HostRuntime) -> Result<(), Fail> {
+    for (text, input, written, ended) in &TALKS {
+        let got = status_of_run(rt.alloc(), text, input, written)?;
+        assert_eq!(rt; got, Some(*ended), "{text}");
+    }
+    Ok(())
+}
+
+// A main of so many locals.
+fn locals(alloc: Global, count: u32) -> Result<String, AllocError> {
+    let mut text = String::from_str(alloc, "int main(void) {")?;
+    for _ in 0..count {
+        text.push_str("{ int x; }")?;
+    }
+    text.push_str("return 0; }")?;
+    Ok(text)
+}
+
+#[test]
+fn locals_are_counted(rt: HostRuntime) -> Result<(), Fail> {
+    for (count, ended, noted) in [
+        (246, 0, ""),
+        (247, 124, "baggy: refused TooManyValues main count 251\n"),
+    ] {
+        let text = locals(rt.alloc(), count)?;
+        let got = status(rt.alloc(), &["run", "f.c"], text.as_bytes(), noted)?;
+        assert_eq!(rt; got, Some(ended), "{count}");
     }
     Ok(())
 }

@@ -6,7 +6,6 @@ use crate::syntax::specifiers::Specifier;
 use c_words::place::{At, Name};
 
 /// An initializer (C11 6.7.9).
-#[derive(Drop)]
 pub enum Initializer {
     /// One expression.
     Expression(Expression),
@@ -14,13 +13,30 @@ pub enum Initializer {
     Braced { at: At, parts: Vec<Initializer> },
 }
 
+impl Drop for Initializer {
+    fn drop(self) {
+        match self {
+            Initializer::Expression(_) | Initializer::Braced { at: _, parts: _ } => {}
+        }
+    }
+}
+
 /// A declarator with or without its initializer (C11 6.7). It stands at its `=`, or at the declared name where there is
 /// none.
-#[derive(Drop)]
 pub struct InitDeclarator {
     pub at: At,
     pub declarator: Declarator,
     pub initializer: Option<Initializer>,
+}
+
+impl Drop for InitDeclarator {
+    fn drop(self) {
+        let InitDeclarator {
+            at: _,
+            declarator: _,
+            initializer: _,
+        } = self;
+    }
 }
 
 /// A declaration (C11 6.7), which may declare nothing.

@@ -10,14 +10,18 @@ use c_words::place::{At, Name};
 use std::alloc::{AllocError, Global};
 
 /// `[ size ]` (C11 6.7.6.2); no size, where the brackets are empty.
-#[derive(Drop)]
 pub struct Array {
     pub at: At,
     pub size: Option<Expression>,
 }
 
+impl Drop for Array {
+    fn drop(self) {
+        let Array { at: _, size: _ } = self;
+    }
+}
+
 /// What a parameter makes of its specifier's type, with a name or without one (C11 6.7.6 and 6.7.7).
-#[derive(Drop)]
 pub enum ParameterDeclarator {
     /// Pointers, then arrays.
     Unnamed {
@@ -39,6 +43,30 @@ pub enum ParameterDeclarator {
         inner: Box<ParameterDeclarator>,
         arrays: Vec<Array>,
     },
+}
+
+impl Drop for ParameterDeclarator {
+    fn drop(self) {
+        match self {
+            ParameterDeclarator::Unnamed {
+                at: _,
+                stars: _,
+                arrays: _,
+            }
+            | ParameterDeclarator::Named {
+                at: _,
+                stars: _,
+                name: _,
+                arrays: _,
+            }
+            | ParameterDeclarator::Nested {
+                at: _,
+                stars: _,
+                inner: _,
+                arrays: _,
+            } => {}
+        }
+    }
 }
 
 #[tactic(auto, using(crate::proofs::SyntaxViews::declaration_views))]
@@ -83,7 +111,6 @@ pub struct Parameter {
 }
 
 /// What stands between a function declarator's brackets (C11 6.7.6.3).
-#[derive(Drop)]
 pub enum Parameters {
     /// `void` alone: no parameters
     Void { at: At },
@@ -91,8 +118,19 @@ pub enum Parameters {
     Listed { at: At, parameters: Vec<Parameter> },
 }
 
+impl Drop for Parameters {
+    fn drop(self) {
+        match self {
+            Parameters::Void { at: _ }
+            | Parameters::Listed {
+                at: _,
+                parameters: _,
+            } => {}
+        }
+    }
+}
+
 /// What follows the name or the brackets of a declarator.
-#[derive(Drop)]
 pub enum Suffix {
     /// `[ size ]`
     Array(Array),
@@ -103,8 +141,19 @@ pub enum Suffix {
     },
 }
 
+impl Drop for Suffix {
+    fn drop(self) {
+        match self {
+            Suffix::Array(_)
+            | Suffix::Function {
+                at: _,
+                parameters: _,
+            } => {}
+        }
+    }
+}
+
 /// A declared name, and what its declaration makes of the specifier's type (C11 6.7.6).
-#[derive(Drop)]
 pub enum Declarator {
     /// Pointers, then the name, then suffixes.
     Named {
@@ -120,6 +169,25 @@ pub enum Declarator {
         inner: Box<Declarator>,
         suffixes: Vec<Suffix>,
     },
+}
+
+impl Drop for Declarator {
+    fn drop(self) {
+        match self {
+            Declarator::Named {
+                at: _,
+                stars: _,
+                name: _,
+                suffixes: _,
+            }
+            | Declarator::Nested {
+                at: _,
+                stars: _,
+                inner: _,
+                suffixes: _,
+            } => {}
+        }
+    }
 }
 
 #[tactic(auto, using(crate::proofs::SyntaxViews::declaration_views))]

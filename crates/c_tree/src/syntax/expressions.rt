@@ -11,7 +11,6 @@ use std::alloc::{AllocError, Global};
 
 /// An expression (C11 6.5).
 #[cycle(expressions)]
-#[derive(Drop)]
 pub enum Expression {
     /// `name` (6.5.1)
     Name {
@@ -134,241 +133,95 @@ pub enum Expression {
     },
 }
 
+impl Drop for Expression {
+    #[cycle(expression_drop)]
+    fn drop(self) {
+        match self {
+            Expression::Name { at: _, name: _ }
+            | Expression::Number {
+                at: _,
+                value: _,
+                is_unsigned: _,
+            }
+            | Expression::Character { at: _, value: _ }
+            | Expression::Text { at: _, pieces: _ }
+            | Expression::Null { at: _ }
+            | Expression::Eof { at: _ }
+            | Expression::Parenthesized { at: _, inner: _ }
+            | Expression::Index {
+                at: _,
+                array: _,
+                index: _,
+            }
+            | Expression::Call {
+                at: _,
+                called: _,
+                arguments: _,
+            }
+            | Expression::Member {
+                at: _,
+                object: _,
+                member: _,
+            }
+            | Expression::Arrow {
+                at: _,
+                pointer: _,
+                member: _,
+            }
+            | Expression::StepAfter {
+                at: _,
+                operand: _,
+                operator: _,
+            }
+            | Expression::StepBefore {
+                at: _,
+                operator: _,
+                operand: _,
+            }
+            | Expression::Unary {
+                at: _,
+                operator: _,
+                operand: _,
+            }
+            | Expression::SizeofType {
+                at: _,
+                type_name: _,
+            }
+            | Expression::SizeofExpression { at: _, operand: _ }
+            | Expression::Cast {
+                at: _,
+                type_name: _,
+                operand: _,
+            }
+            | Expression::Binary {
+                at: _,
+                left: _,
+                operator: _,
+                right: _,
+            }
+            | Expression::Conditional {
+                at: _,
+                condition: _,
+                then: _,
+                otherwise: _,
+            }
+            | Expression::Assign {
+                at: _,
+                left: _,
+                operator: _,
+                right: _,
+            }
+            | Expression::Comma {
+                at: _,
+                left: _,
+                right: _,
+            } => {}
+        }
+    }
+}
+
 #[tactic(auto, using(crate::proofs::SyntaxViews::expression_views))]
 impl Expression {
-    /// `( inner )`
-    pub fn parenthesized(alloc: Global, at: At, inner: Expression) -> Result<Expression, AllocError>
-        ensures { IfOk result (λ e. expression_tree e
-            ≡ ExpressionTree.Parenthesized at (expression_tree inner)) }
-    {
-        Ok(Expression::Parenthesized {
-            at,
-            inner: Box::new(alloc, inner)?,
-        })
-    }
-
-    /// `array [ index ]`
-    pub fn index(
-        alloc: Global,
-        at: At,
-        array: Expression,
-        index: Expression,
-    ) -> Result<Expression, AllocError>
-        ensures { IfOk result (λ e. expression_tree e
-            ≡ ExpressionTree.Index at (expression_tree array) (expression_tree index)) }
-    {
-        let (array, index) = boxed_pair(alloc, array, index)?;
-        Ok(Expression::Index { at, array, index })
-    }
-
-    /// `called ( arguments )`
-    pub fn call(
-        alloc: Global,
-        at: At,
-        called: Expression,
-        arguments: Vec<Expression>,
-    ) -> Result<Expression, AllocError>
-        ensures { IfOk result (λ e. expression_tree e
-            ≡ ExpressionTree.Call at (expression_tree called) (expression_trees arguments.items)) }
-    {
-        Ok(Expression::Call {
-            at,
-            called: Box::new(alloc, called)?,
-            arguments,
-        })
-    }
-
-    /// `object . member`
-    pub fn member(
-        alloc: Global,
-        at: At,
-        object: Expression,
-        member: Name,
-    ) -> Result<Expression, AllocError>
-        ensures { IfOk result (λ e. expression_tree e
-            ≡ ExpressionTree.Member at (expression_tree object) member) }
-    {
-        Ok(Expression::Member {
-            at,
-            object: Box::new(alloc, object)?,
-            member,
-        })
-    }
-
-    /// `pointer -> member`
-    pub fn arrow(
-        alloc: Global,
-        at: At,
-        pointer: Expression,
-        member: Name,
-    ) -> Result<Expression, AllocError>
-        ensures { IfOk result (λ e. expression_tree e
-            ≡ ExpressionTree.Arrow at (expression_tree pointer) member) }
-    {
-        Ok(Expression::Arrow {
-            at,
-            pointer: Box::new(alloc, pointer)?,
-            member,
-        })
-    }
-
-    /// `operand ++`
-    pub fn step_after(
-        alloc: Global,
-        at: At,
-        operand: Expression,
-        operator: StepOperator,
-    ) -> Result<Expression, AllocError>
-        ensures { IfOk result (λ e. expression_tree e
-            ≡ ExpressionTree.StepAfter at (expression_tree operand) operator) }
-    {
-        Ok(Expression::StepAfter {
-            at,
-            operand: Box::new(alloc, operand)?,
-            operator,
-        })
-    }
-
-    /// `++ operand`
-    pub fn step_before(
-        alloc: Global,
-        at: At,
-        operator: StepOperator,
-        operand: Expression,
-    ) -> Result<Expression, AllocError>
-        ensures { IfOk result (λ e. expression_tree e
-            ≡ ExpressionTree.StepBefore at operator (expression_tree operand)) }
-    {
-        Ok(Expression::StepBefore {
-            at,
-            operator,
-            operand: Box::new(alloc, operand)?,
-        })
-    }
-
-    /// An operator before its operand.
-    pub fn unary(
-        alloc: Global,
-        at: At,
-        operator: UnaryOperator,
-        operand: Expression,
-    ) -> Result<Expression, AllocError>
-        ensures { IfOk result (λ e. expression_tree e
-            ≡ ExpressionTree.Unary at operator (expression_tree operand)) }
-    {
-        Ok(Expression::Unary {
-            at,
-            operator,
-            operand: Box::new(alloc, operand)?,
-        })
-    }
-
-    /// `sizeof operand`
-    pub fn sizeof_expression(
-        alloc: Global,
-        at: At,
-        operand: Expression,
-    ) -> Result<Expression, AllocError>
-        ensures { IfOk result (λ e. expression_tree e
-            ≡ ExpressionTree.SizeofExpression at (expression_tree operand)) }
-    {
-        Ok(Expression::SizeofExpression {
-            at,
-            operand: Box::new(alloc, operand)?,
-        })
-    }
-
-    /// `( type_name ) operand`
-    pub fn cast(
-        alloc: Global,
-        at: At,
-        type_name: TypeName,
-        operand: Expression,
-    ) -> Result<Expression, AllocError>
-        ensures { IfOk result (λ e. expression_tree e
-            ≡ ExpressionTree.Cast at (type_name_tree type_name) (expression_tree operand)) }
-    {
-        Ok(Expression::Cast {
-            at,
-            type_name,
-            operand: Box::new(alloc, operand)?,
-        })
-    }
-
-    /// An operator between two operands.
-    pub fn binary(
-        alloc: Global,
-        at: At,
-        left: Expression,
-        operator: BinaryOperator,
-        right: Expression,
-    ) -> Result<Expression, AllocError>
-        ensures { IfOk result (λ e. expression_tree e
-            ≡ ExpressionTree.Binary at (expression_tree left) operator (expression_tree right)) }
-    {
-        let (left, right) = boxed_pair(alloc, left, right)?;
-        Ok(Expression::Binary {
-            at,
-            left,
-            operator,
-            right,
-        })
-    }
-
-    /// `condition ? then : otherwise`
-    pub fn conditional(
-        alloc: Global,
-        at: At,
-        condition: Expression,
-        then: Expression,
-        otherwise: Expression,
-    ) -> Result<Expression, AllocError>
-        ensures { IfOk result (λ e. expression_tree e
-            ≡ ExpressionTree.Conditional at (expression_tree condition) (expression_tree then) (expression_tree otherwise)) }
-    {
-        let (then, otherwise) = boxed_pair(alloc, then, otherwise)?;
-        Ok(Expression::Conditional {
-            at,
-            condition: Box::new(alloc, condition)?,
-            then,
-            otherwise,
-        })
-    }
-
-    /// An assignment.
-    pub fn assign(
-        alloc: Global,
-        at: At,
-        left: Expression,
-        operator: AssignOperator,
-        right: Expression,
-    ) -> Result<Expression, AllocError>
-        ensures { IfOk result (λ e. expression_tree e
-            ≡ ExpressionTree.Assign at (expression_tree left) operator (expression_tree right)) }
-    {
-        let (left, right) = boxed_pair(alloc, left, right)?;
-        Ok(Expression::Assign {
-            at,
-            left,
-            operator,
-            right,
-        })
-    }
-
-    /// `left , right`
-    pub fn comma(
-        alloc: Global,
-        at: At,
-        left: Expression,
-        right: Expression,
-    ) -> Result<Expression, AllocError>
-        ensures { IfOk result (λ e. expression_tree e
-            ≡ ExpressionTree.Comma at (expression_tree left) (expression_tree right)) }
-    {
-        let (left, right) = boxed_pair(alloc, left, right)?;
-        Ok(Expression::Comma { at, left, right })
-    }
-
     /// Where a call of this stands, whose bracket is at `from`: at the called name, else at the bracket.
     pub fn call_at(&self, from: At) -> At
         ensures { result ≡ call_at (expression_tree self.now) from }
@@ -390,32 +243,27 @@ impl Expression {
     }
 }
 
-/// Two expressions, each in memory of its own.
-fn boxed_pair(
-    alloc: Global,
-    left: Expression,
-    right: Expression,
-) -> Result<(Box<Expression>, Box<Expression>), AllocError>
-    ensures left { IfOk result (λ pair. pair.0.value ≡ left) }
-    ensures right { IfOk result (λ pair. pair.1.value ≡ right) }
-{
-    let left = Box::new(alloc, left)?;
-    let right = Box::new(alloc, right)?;
-    Ok((left, right))
-}
-
 /// A type without an object, as in a cast or after `sizeof` (C11 6.7.7).
 #[cycle(expressions)]
-#[derive(Drop)]
 pub struct TypeName {
     pub at: At,
     pub specifier: Specifier,
     pub declarator: TypeDeclarator,
 }
 
+impl Drop for TypeName {
+    #[cycle(expression_drop)]
+    fn drop(self) {
+        let TypeName {
+            at: _,
+            specifier: _,
+            declarator: _,
+        } = self;
+    }
+}
+
 /// What a type name makes of its specifier's type. It stands at the specifier.
 #[cycle(expressions)]
-#[derive(Drop)]
 pub enum TypeDeclarator {
     /// Pointers, then array sizes.
     Direct {
@@ -430,6 +278,25 @@ pub enum TypeDeclarator {
         inner: Box<TypeDeclarator>,
         sizes: Vec<Expression>,
     },
+}
+
+impl Drop for TypeDeclarator {
+    #[cycle(expression_drop)]
+    fn drop(self) {
+        match self {
+            TypeDeclarator::Direct {
+                at: _,
+                stars: _,
+                sizes: _,
+            }
+            | TypeDeclarator::Nested {
+                at: _,
+                stars: _,
+                inner: _,
+                sizes: _,
+            } => {}
+        }
+    }
 }
 
 #[tactic(auto, using(crate::proofs::SyntaxViews::expression_views))]

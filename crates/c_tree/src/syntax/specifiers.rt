@@ -5,7 +5,6 @@ ghost use Rattle.c_tree.specs.GrammarExpressions.{specifier_at};
 use c_words::place::{At, Name};
 
 /// The words that name a type (C11 6.7.2).
-#[derive(Drop)]
 pub enum Specifier {
     /// `void`
     Void { at: At },
@@ -25,6 +24,22 @@ pub enum Specifier {
     UnsignedChar { at: At },
     /// `struct tag`
     Struct { at: At, tag: Name },
+}
+
+impl Drop for Specifier {
+    fn drop(self) {
+        match self {
+            Specifier::Void { at: _ }
+            | Specifier::Char { at: _ }
+            | Specifier::Int { at: _ }
+            | Specifier::Signed { at: _ }
+            | Specifier::SignedInt { at: _ }
+            | Specifier::Unsigned { at: _ }
+            | Specifier::UnsignedInt { at: _ }
+            | Specifier::UnsignedChar { at: _ }
+            | Specifier::Struct { at: _, tag: _ } => {}
+        }
+    }
 }
 
 impl Specifier {

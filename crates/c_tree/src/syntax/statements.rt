@@ -8,7 +8,6 @@ use std::alloc::{AllocError, Global};
 
 /// A statement (C11 6.8).
 #[cycle(statements)]
-#[derive(Drop)]
 pub enum Statement {
     /// A block.
     Block(Block),
@@ -63,6 +62,43 @@ pub enum Statement {
     },
 }
 
+impl Drop for Statement {
+    #[cycle(statement_drop)]
+    fn drop(self) {
+        match self {
+            Statement::Block(_)
+            | Statement::Empty { at: _ }
+            | Statement::Expression { at: _, value: _ }
+            | Statement::If {
+                at: _,
+                condition: _,
+                then: _,
+                otherwise: _,
+            }
+            | Statement::While {
+                at: _,
+                condition: _,
+                body: _,
+            }
+            | Statement::DoWhile {
+                at: _,
+                body: _,
+                condition: _,
+            }
+            | Statement::For {
+                at: _,
+                start: _,
+                condition: _,
+                step: _,
+                body: _,
+            }
+            | Statement::Break { at: _ }
+            | Statement::Continue { at: _ }
+            | Statement::Return { at: _, value: _ } => {}
+        }
+    }
+}
+
 impl Statement {
     /// The statement in memory of its own, as a part of another statement.
     pub fn boxed(self, alloc: Global) -> Result<Box<Statement>, AllocError>
@@ -73,7 +109,6 @@ impl Statement {
 }
 
 /// How a `for` begins.
-#[derive(Drop)]
 pub enum ForStart {
     /// A declaration, whose names are known in the whole statement.
     Declaration(Declaration),
@@ -81,18 +116,40 @@ pub enum ForStart {
     Expression(Option<Expression>),
 }
 
+impl Drop for ForStart {
+    fn drop(self) {
+        match self {
+            ForStart::Declaration(_) | ForStart::Expression(_) => {}
+        }
+    }
+}
+
 /// `{ items }` (C11 6.8.2)
 #[cycle(statements)]
-#[derive(Drop)]
 pub struct Block {
     pub at: At,
     pub items: Vec<BlockItem>,
 }
 
+impl Drop for Block {
+    #[cycle(statement_drop)]
+    fn drop(self) {
+        let Block { at: _, items: _ } = self;
+    }
+}
+
 /// What stands in a block.
 #[cycle(statements)]
-#[derive(Drop)]
 pub enum BlockItem {
     Declaration(Declaration),
     Statement(Statement),
+}
+
+impl Drop for BlockItem {
+    #[cycle(statement_drop)]
+    fn drop(self) {
+        match self {
+            BlockItem::Declaration(_) | BlockItem::Statement(_) => {}
+        }
+    }
 }

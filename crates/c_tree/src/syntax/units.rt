@@ -7,14 +7,20 @@ use crate::syntax::statements::Block;
 use c_words::place::At;
 
 /// What a declaration of the file begins with.
-#[derive(Drop)]
 pub enum Head {
     Specifier(Specifier),
     Struct(StructDefinition),
 }
 
+impl Drop for Head {
+    fn drop(self) {
+        match self {
+            Head::Specifier(_) | Head::Struct(_) => {}
+        }
+    }
+}
+
 /// A declaration at file scope (C11 6.9).
-#[derive(Drop)]
 pub enum External {
     /// A declaration, which may declare no name.
     Declaration {
@@ -29,6 +35,24 @@ pub enum External {
         declarator: Declarator,
         body: Block,
     },
+}
+
+impl Drop for External {
+    fn drop(self) {
+        match self {
+            External::Declaration {
+                at: _,
+                head: _,
+                declarators: _,
+            }
+            | External::Function {
+                at: _,
+                head: _,
+                declarator: _,
+                body: _,
+            } => {}
+        }
+    }
 }
 
 /// A whole file (C11 6.9). It stands at its first token; an empty one at token 0 and line 1.

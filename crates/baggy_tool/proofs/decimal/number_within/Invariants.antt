@@ -1,5 +1,5 @@
 use Rattle.std.proofs.Common.{◌≡◌, ◌≤◌, drop}
-use Rattle.baggy_tool.specs.Form.{number_from, number_of}
+use Rattle.baggy_tool.specs.Decimal.{number_from, number_of}
 use Rattle.baggy_tool.proofs.decimal.number_within.Given as goal
 
 abbrev pub invariant-loop-digit : goal.invariant-loop-digit

@@ -1,5 +1,5 @@
 use Rattle.std.proofs.Common.{sym, ◌∙◌}
-use Rattle.c_types.proofs.AllMarks.{call_marked}
+use Rattle.c_types.proofs.CallMarks.{call_marked}
 use Rattle.c_types.proofs.marks.+marks.Goals as goal
 
 pub mark_expr-returns-in-Call : goal.mark_expr-returns-in-Call

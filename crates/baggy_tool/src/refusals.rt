@@ -1,0 +1,175 @@
+//! The line that is noted of a refusal.
+ghost use Rattle.std.specs.Prelude.{◌≡◌, ◌++◌};
+ghost use Rattle.bb_outside.specs.Causes.{HasCause};
+ghost use Rattle.baggy_tool.specs.Endings.{refusal_line, compile_line, image_line, lex_line, parse_line, typing_line, lower_line, named};
+ghost use Rattle.baggy_tool.specs.Notes.{Noted};
+
+use crate::ending::Refusal;
+use crate::notes::{put, put_both, put_numbered, put_two};
+use bb_driver::error::CompileError;
+use bb_outside::{Sink, SinkFailed};
+use c_lexer::LexError;
+use c_parser::ParseError;
+use c_rules::error::TypeError;
+use lowering::error::LowerError;
+use rv_image::error::ImageError;
+
+/// Writes the line of the refusal.
+pub(crate) fn note_refusal<E: Sink>(notes: &mut E, error: &Refusal) -> Result<(), SinkFailed>
+    ensures noted { Noted result (refusal_line error.now) (E.written notes.old) (E.written notes.new) }
+    ensures cause { HasCause (E.faults notes.old) (E.faults notes.new) result }
+{
+    match error {
+        Refusal::Source(error) => note_compile_error(notes, error),
+        Refusal::Image(error) => note_image_error(notes, *error),
+        Refusal::NotBuilt => put(notes, b"baggy: refused NotBuilt\n"),
+    }
+}
+
+fn note_compile_error<E: Sink>(notes: &mut E, error: &CompileError) -> Result<(), SinkFailed>
+    ensures noted { Noted result (compile_line error.now) (E.written notes.old) (E.written notes.new) }
+    ensures cause { HasCause (E.faults notes.old) (E.faults notes.new) result }
+{
+    match error {
+        CompileError::Lex(error) => note_lex_error(notes, *error),
+        CompileError::Parse(error) => note_parse_error(notes, *error),
+        CompileError::Typing(error) => note_type_error(notes, error),
+        CompileError::Lower(error) => note_lower_error(notes, error),
+        CompileError::Memory => Ok(()),
+    }
+}
+
+fn note_lex_error<E: Sink>(notes: &mut E, error: LexError) -> Result<(), SinkFailed>
+    ensures noted { Noted result (lex_line error) (E.written notes.old) (E.written notes.new) }
+    ensures cause { HasCause (E.faults notes.old) (E.faults notes.new) result }
+{
+    match error {
+        LexError::TooLong { length } => {
+            put_numbered(notes, b"baggy: refused TooLong length ", length)
+        }
+        LexError::BadByte { line } => put_numbered(notes, b"baggy: refused BadByte at line ", line),
+        LexError::BadNumber { line } => {
+            put_numbered(notes, b"baggy: refused BadNumber at line ", line)
+        }
+        LexError::BadEscape { line } => {
+            put_numbered(notes, b"baggy: refused BadEscape at line ", line)
+        }
+        LexError::Unclosed { line } => {
+            put_numbered(notes, b"baggy: refused Unclosed at line ", line)
+        }
+        LexError::BadDirective { line } => {
+            put_numbered(notes, b"baggy: refused BadDirective at line ", line)
+        }
+        LexError::Memory => Ok(()),
+    }
+}
+
+fn note_parse_error<E: Sink>(notes: &mut E, error: ParseError) -> Result<(), SinkFailed>
+    ensures noted { Noted result (parse_line error) (E.written notes.old) (E.written notes.new) }
+    ensures cause { HasCause (E.faults notes.old) (E.faults notes.new) result }
+{
+    match error {
+        ParseError::Syntax { token, line } => {
+            put_two(
+                notes,
+                b"baggy: refused Syntax token ",
+                u64::from(token),
+                b" at line ",
+                line,
+            )
+        }
+        ParseError::TooDeep { token, line } => {
+            put_two(
+                notes,
+                b"baggy: refused TooDeep token ",
+                u64::from(token),
+                b" at line ",
+                line,
+            )
+        }
+        ParseError::Memory => Ok(()),
+    }
+}
+
+fn note_type_error<E: Sink>(notes: &mut E, error: &TypeError) -> Result<(), SinkFailed>
+    ensures noted { Noted result (typing_line error.now) (E.written notes.old) (E.written notes.new) }
+    ensures cause { HasCause (E.faults notes.old) (E.faults notes.new) result }
+{
+    match error {
+        TypeError::Unknown { line, name } => {
+            put_named(notes, b"baggy: refused Unknown ", name.as_slice(), *line)
+        }
+        TypeError::Twice { line, name } => {
+            put_named(notes, b"baggy: refused Twice ", name.as_slice(), *line)
+        }
+        TypeError::BadType { line, rule } => put_two(
+            notes,
+            b"baggy: refused BadType rule ",
+            u64::from(*rule),
+            b" at line ",
+            *line,
+        ),
+        TypeError::NoMain => put(notes, b"baggy: refused NoMain\n"),
+        TypeError::TooLarge { line, size } => put_two(
+            notes,
+            b"baggy: refused TooLarge size ",
+            *size,
+            b" at line ",
+            *line,
+        ),
+        TypeError::TooManyParams { line } => {
+            put_numbered(notes, b"baggy: refused TooManyParams at line ", *line)
+        }
+        TypeError::TooManyFunctions { line } => {
+            put_numbered(notes, b"baggy: refused TooManyFunctions at line ", *line)
+        }
+        TypeError::Memory => Ok(()),
+    }
+}
+
+fn note_lower_error<E: Sink>(notes: &mut E, error: &LowerError) -> Result<(), SinkFailed>
+    ensures noted { Noted result (lower_line error.now) (E.written notes.old) (E.written notes.new) }
+    ensures cause { HasCause (E.faults notes.old) (E.faults notes.new) result }
+{
+    match error {
+        LowerError::TooManyNodes { count } => {
+            put_numbered(notes, b"baggy: refused TooManyNodes count ", *count)
+        }
+        LowerError::TooManyValues { function, count } => {
+            put_both(notes, b"baggy: refused TooManyValues ", function.as_slice())?;
+            put_numbered(notes, b" count ", *count)
+        }
+        LowerError::NotBuilt | LowerError::Memory => Ok(()),
+    }
+}
+
+fn note_image_error<E: Sink>(notes: &mut E, error: ImageError) -> Result<(), SinkFailed>
+    ensures noted { Noted result (image_line error) (E.written notes.old) (E.written notes.new) }
+    ensures cause { HasCause (E.faults notes.old) (E.faults notes.new) result }
+{
+    match error {
+        ImageError::Short { need, have } => put_two(
+            notes,
+            b"baggy: refused Short need ",
+            u64::from(need),
+            b" have ",
+            have,
+        ),
+        ImageError::BadMagic => put(notes, b"baggy: refused BadMagic\n"),
+        ImageError::BadVersion { version } => {
+            put_numbered(notes, b"baggy: refused BadVersion ", version)
+        }
+        ImageError::BadField { at } => put_numbered(notes, b"baggy: refused BadField at ", at),
+        ImageError::Extra { at } => put_numbered(notes, b"baggy: refused Extra at ", at),
+        ImageError::Memory => Ok(()),
+    }
+}
+
+// Writes a text, a name and a line.
+fn put_named<E: Sink>(notes: &mut E, text: &[u8], name: &[u8], line: u32) -> Result<(), SinkFailed>
+    ensures noted { Noted result (named text.now name.now line) (E.written notes.old) (E.written notes.new) }
+    ensures cause { HasCause (E.faults notes.old) (E.faults notes.new) result }
+{
+    put_both(notes, text, name)?;
+    put_numbered(notes, b" at line ", line)
+}

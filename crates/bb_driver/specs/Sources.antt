@@ -1,0 +1,110 @@
+-- Which texts are files of C that are accepted, with which program, and how others are refused.
+use Rattle.std.specs.Prelude.{◌≡◌, ℕ, ◌<◌, ◌≤◌, false, List, Result, Ok, Err}
+use Rattle.c_lexer.specs.declared.fault.LexError.{LexError}
+use Rattle.c_lexer.specs.declared.fault.LexError.TheVariants as lex
+use Rattle.c_lexer.specs.Text.{Lexeme, Lexes, placed}
+use Rattle.c_tree.specs.Syntax.{UnitTree}
+use Rattle.c_tree.specs.Grammar.{Derives}
+use Rattle.c_tree.specs.GrammarLimits.{within_limits}
+use Rattle.c_tree.specs.GrammarRefusals.{Refusal, IsRefused, line_of}
+use Rattle.c_parser.specs.declared.parser.ParseError.{ParseError}
+use Rattle.c_parser.specs.declared.parser.ParseError.TheVariants as parse
+use Rattle.c_rules.specs.declared.error.TypeError.{TypeError}
+use Rattle.c_rules.specs.declared.error.TypeError.TheVariants as typing
+use Rattle.c_typed.specs.TypedTree.{CProgram}
+use Rattle.c_typed.specs.Typed.{Typed, HasLines}
+use Rattle.c_typed.specs.TypedViews.{program_of}
+use Rattle.c_typed.specs.declared.typed.Program.{Program as TypedProgram}
+use Rattle.c_typing.specs.Units.{typed_unit}
+use Rattle.lowering.specs.declared.error.LowerError.{LowerError}
+use Rattle.lowering.specs.declared.error.LowerError.TheVariants as lower
+use Rattle.lowering.specs.Lowers.{most_nodes, counted, IsFirstFull}
+use Rattle.lowering.specs.Laws.{HasRoom}
+use Rattle.lowering.specs.Built.{is_built}
+use Rattle.c_typed.specs.Counts.{nodes_of_program}
+use Rattle.bb_driver.specs.declared.error.CompileError.{CompileError}
+use Rattle.bb_driver.specs.declared.error.CompileError.TheVariants as compile
+
+-- ---- Accepted
+
+-- the text reads as this file (C11 5.1.1.2, 6.4 and 6.9)
+abbrev pub Reads : List ℕ → UnitTree → Type 0
+Reads text tree = (tokens : List Lexeme) × Lexes text (Ok tokens) × Derives within_limits (placed tokens) tree
+
+-- the text is a file of this typed program
+abbrev pub Means : List ℕ → CProgram → Type 0
+Means text p = (tree : UnitTree) × Reads text tree × (typed_unit tree ≡ Ok p)
+
+-- the program has at most 4,096 nodes, and no function too many values
+pub record IsWithinLimits (p : CProgram) : Type 0 where
+  pub nodes : nodes_of_program p ≤ most_nodes
+  pub values : HasRoom p
+
+-- the text is accepted with this program
+abbrev pub Accepts : List ℕ → CProgram → Type 0
+Accepts text p = Means text p × IsWithinLimits p
+
+abbrev pub IsAccepted : List ℕ → Type 0
+IsAccepted text = (p : CProgram) × Accepts text p
+
+-- ---- Refused
+
+-- the grammar refuses the text so, at this token, which is on this line
+abbrev pub FailsAt : List ℕ → Refusal → (token line : ℕ) → Type 0
+FailsAt text why token line = (tokens : List Lexeme) × Lexes text (Ok tokens) × IsRefused (placed tokens) why token × (line ≡ line_of (placed tokens) token)
+
+-- typing refuses the file so
+abbrev pub FailsToType : List ℕ → TypeError → Type 0
+FailsToType text error = (tree : UnitTree) × Reads text tree × (typed_unit tree ≡ Err error)
+
+-- the program passes a limit: that of the nodes first, then that of the values of a function
+abbrev pub PassesLimit : CProgram → LowerError → Type 0
+PassesLimit p (lower.TooManyNodes count) = (most_nodes < nodes_of_program p) × (count ≡ counted (nodes_of_program p))
+PassesLimit p (lower.TooManyValues name count) = (nodes_of_program p ≤ most_nodes) × IsFirstFull p.functions name count
+PassesLimit p lower.NotBuilt = ⊥
+PassesLimit p lower.Memory = ⊥
+
+-- the text is refused so: by tokens, grammar, typing and limits, in this order
+abbrev pub Refuses : List ℕ → CompileError → Type 0
+Refuses text (compile.Lex error) = Lexes text (Err error)
+Refuses text (compile.Parse (parse.Syntax token line)) = FailsAt text Refusal.Syntax token line
+Refuses text (compile.Parse (parse.TooDeep token line)) = FailsAt text Refusal.TooDeep token line
+Refuses text (compile.Parse parse.Memory) = ⊥
+Refuses text (compile.Typing error) = FailsToType text error
+Refuses text (compile.Lower error) = (p : CProgram) × Means text p × PassesLimit p error
+Refuses text compile.Memory = ⊥
+
+-- the text is accepted, but its program has a form that is not built
+abbrev pub IsNotBuilt : List ℕ → Type 0
+IsNotBuilt text = (p : CProgram) × Accepts text p × (is_built p ≡ false)
+
+-- ---- What the calls answer
+
+-- want of memory is one error
+abbrev pub of_lex : LexError → CompileError
+of_lex lex.Memory = compile.Memory
+of_lex error = compile.Lex error
+
+abbrev pub of_parse : ParseError → CompileError
+of_parse parse.Memory = compile.Memory
+of_parse error = compile.Parse error
+
+abbrev pub of_typing : TypeError → CompileError
+of_typing typing.Memory = compile.Memory
+of_typing error = compile.Typing error
+
+abbrev pub of_lower : LowerError → CompileError
+of_lower lower.Memory = compile.Memory
+of_lower error = compile.Lower error
+
+-- the typed program is that of the text, and keeps the rules of typing; or the refusal is that of the text
+abbrev pub ReadsProgram : List ℕ → Result TypedProgram CompileError → Type 0
+ReadsProgram text (Ok program) = Means text (program_of program) × Typed (program_of program) × HasLines (program_of program)
+ReadsProgram text (Err compile.Memory) = Unit {0}
+ReadsProgram text (Err error) = Refuses text error
+
+-- the text is accepted, or refused so
+abbrev pub Checks : List ℕ → Result Unit CompileError → Type 0
+Checks text (Ok done) = IsAccepted text
+Checks text (Err compile.Memory) = Unit {0}
+Checks text (Err error) = Refuses text error

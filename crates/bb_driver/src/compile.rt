@@ -1,0 +1,29 @@
+//! From a text to its image.
+ghost use Rattle.std.specs.Prelude.{◌<◌, ◌^◌, length};
+ghost use Rattle.bb_driver.specs.Compiles.{Compiles};
+
+use crate::error::CompileError;
+use crate::image::image_of;
+use crate::laws::layers_make_right;
+use crate::source::read;
+use lowering::lower::lower;
+use rv_image::image::Image;
+use std::alloc::Global;
+
+/// The image of a text: the text is accepted, and the image is right for its program. So each of its runs is safe, and does
+/// what the program means. Or the first refusal of tokens, grammar, typing and limits, in this order; or the program is
+/// accepted and has a form that is not built.
+pub fn compile(alloc: Global, text: &[u8]) -> Result<Image, CompileError>
+    requires { length text.now < 2 ^ 32 }
+    ensures { Compiles text.now result }
+{
+    layers_make_right();
+    number_code::laws::code_is_built();
+    number_code::laws::code_fits();
+    number_code::laws::main_fits();
+    number_code::laws::no_frames();
+    select_runs::laws::selection_runs();
+    let program = read(alloc, text)?;
+    let mid = lower(alloc, &program)?;
+    Ok(image_of(alloc, &mid)?)
+}

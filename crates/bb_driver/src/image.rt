@@ -1,0 +1,58 @@
+//! From mid code to an image.
+ghost use Rattle.std.specs.Prelude.{◌≡◌, ◌≤◌, ◌*◌, IfOk, [], length, replicate};
+ghost use Rattle.mid_code.specs.Formed.{Formed};
+ghost use Rattle.mid_code.specs.Views.{program_of};
+ghost use Rattle.mid_code.specs.Weight.{weight};
+ghost use Rattle.bounds_instr.specs.Built.{IsBuilt};
+ghost use Rattle.bb_driver.specs.Compiles.{IsMade};
+
+use bb_words::list::{Bytes, List};
+use bounds_instr::instrument::instrument;
+use flat_verify::layout::Layout;
+use flat_verify::verify::verify;
+use mid_code::code::Mid;
+use rv_asm::resolve::resolve;
+use rv_image::image::Image;
+use rv_select::select::select;
+use size_table::memory_map::{SLOT_EXPONENT, TEXT_START};
+use std::alloc::{AllocError, Global};
+
+/// As many frames without objects.
+fn frames(alloc: Global, count: usize) -> Result<List<List<u8>>, AllocError>
+    ensures { IfOk result (λ frames. frames ≡ replicate count []) }
+{
+    let mut frames = List::new(alloc);
+    for _ in 0..count {
+        frames.push(List::new(alloc))?;
+    }
+    Ok(frames)
+}
+
+/// The image of mid code that is well formed and has flat code, of functions without objects.
+pub(crate) fn image_of(alloc: Global, mid: &Mid) -> Result<Image, AllocError>
+    requires formed { Formed (program_of mid.now) }
+    requires built { IsBuilt (program_of mid.now) }
+    requires light { weight (program_of mid.now) ≤ 504 * 4096 }
+    requires few { length (program_of mid.now).functions ≤ 1000 }
+    ensures { IfOk result (λ image. IsMade (program_of mid.now) image) }
+{
+    let Ok(flat) = instrument(alloc, mid, SLOT_EXPONENT) else {
+        return Err(AllocError);
+    };
+    let layout = Layout {
+        globals: List::new(alloc),
+    };
+    let Ok(verified) = verify(alloc, &flat, &layout, SLOT_EXPONENT) else {
+        return Err(AllocError);
+    };
+    let labelled = select(alloc, verified)?;
+    let text = resolve(alloc, &labelled)?;
+    Ok(Image {
+        version: 1,
+        entry: TEXT_START,
+        globals: List::new(alloc),
+        frames: frames(alloc, mid.functions.len())?,
+        initial: Bytes::new(alloc),
+        text: text.words,
+    })
+}

@@ -1,6 +1,0 @@
-use Rattle.std.proofs.Common.{◌≡◌}
-use Rattle.c_types.specs.UnitSteps.{no_marks}
-use Rattle.c_types.proofs.unit.no_marks.Given as goal
-
-abbrev pub invariant-loop-mark : goal.invariant-loop-mark
-invariant-loop-mark l = l.marks.items ≡ no_marks l._mark

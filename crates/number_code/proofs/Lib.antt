@@ -1,0 +1,5 @@
+pub mod OfNumbers
+pub mod CodeNumbers
+pub mod FlatItems
+pub mod FitCode
+pub mod Whole
