@@ -131,6 +131,29 @@ text_is names s at bytes r h =
 
 -- calls
 
+-- the functions of the library have types that may be formed
+abbrev IsPrototype : List CStruct → Prototype → Type 0
+IsPrototype structs p = IsType structs p.result × All (IsType structs) p.params
+
+one_type : (structs : List CStruct) (t : CType) → IsType structs t → All (IsType structs) (t ∷ [])
+one_type structs t is = All-cons (IsType structs) t [] is (All-nil (IsType structs))
+
+two_types : (structs : List CStruct) (t u : CType) → IsType structs t → IsType structs u → All (IsType structs) (t ∷ u ∷ [])
+two_types structs t u is are = All-cons (IsType structs) t (u ∷ []) is (one_type structs u are)
+
+three_types : (structs : List CStruct) (t u w : CType) → IsType structs t → IsType structs u → IsType structs w → All (IsType structs) (t ∷ u ∷ w ∷ [])
+three_types structs t u w is are all = All-cons (IsType structs) t (u ∷ w ∷ []) is (two_types structs u w are all)
+
+library_types : (structs : List CStruct) (f : LibCall) → IsPrototype structs (prototype_in_library f)
+library_types structs Putchar = (tt, one_type structs CType.Int tt)
+library_types structs Getchar = (tt, All-nil (IsType structs))
+library_types structs Exit = (tt, one_type structs CType.Int tt)
+library_types structs Malloc = (tt, one_type structs CType.Unsigned tt)
+library_types structs Calloc = (tt, two_types structs CType.Unsigned CType.Unsigned tt tt)
+library_types structs Free = (tt, one_type structs (CType.Pointer CType.Void) tt)
+library_types structs Memcpy = (tt, three_types structs (CType.Pointer CType.Void) (CType.Pointer CType.Void) CType.Unsigned tt tt tt)
+library_types structs Memset = (tt, three_types structs (CType.Pointer CType.Void) CType.Int CType.Unsigned tt tt tt)
+
 module _ (sound : OperatorsAreSound) (names : Environment) where
   module _ (s : CScene) (formed : Formed s) where
     -- the rules keep what is an operand in the scene
@@ -158,28 +181,6 @@ module _ (sound : OperatorsAreSound) (names : Environment) where
         let passed = passed_are at.line p.params es vs.0 params are vs.1 in
         subst (IsOperand (at_structs names s.structs)) (same_ok (CExpr.expr at p.result (CForm.Call called vs.0)) v vs.2)
         (record { typed = (result, (passed.0, record { prototype = p; found = is; given = passed.1; result = refl })); written = refl })
-
-  abbrev IsPrototype : List CStruct → Prototype → Type 0
-  IsPrototype structs p = IsType structs p.result × All (IsType structs) p.params
-
-  one_type : (structs : List CStruct) (t : CType) → IsType structs t → All (IsType structs) (t ∷ [])
-  one_type structs t is = All-cons (IsType structs) t [] is (All-nil (IsType structs))
-
-  two_types : (structs : List CStruct) (t u : CType) → IsType structs t → IsType structs u → All (IsType structs) (t ∷ u ∷ [])
-  two_types structs t u is are = All-cons (IsType structs) t (u ∷ []) is (one_type structs u are)
-
-  three_types : (structs : List CStruct) (t u w : CType) → IsType structs t → IsType structs u → IsType structs w → All (IsType structs) (t ∷ u ∷ w ∷ [])
-  three_types structs t u w is are all = All-cons (IsType structs) t (u ∷ w ∷ []) is (two_types structs u w are all)
-
-  library_types : (structs : List CStruct) (f : LibCall) → IsPrototype structs (prototype_in_library f)
-  library_types structs Putchar = (tt, one_type structs CType.Int tt)
-  library_types structs Getchar = (tt, All-nil (IsType structs))
-  library_types structs Exit = (tt, one_type structs CType.Int tt)
-  library_types structs Malloc = (tt, one_type structs CType.Unsigned tt)
-  library_types structs Calloc = (tt, two_types structs CType.Unsigned CType.Unsigned tt tt)
-  library_types structs Free = (tt, one_type structs (CType.Pointer CType.Void) tt)
-  library_types structs Memcpy = (tt, three_types structs (CType.Pointer CType.Void) (CType.Pointer CType.Void) CType.Unsigned tt tt tt)
-  library_types structs Memset = (tt, three_types structs (CType.Pointer CType.Void) CType.Int CType.Unsigned tt tt tt)
 
   function_sound : (s : CScene) (at : At) (k : ℕ) (es : List CExpr) (o : Option CDeclared) (r : CExpr × CScene) → Formed s → (Fits names s → AreOperands (at_structs names s.structs) es)
       → slice_get s.functions k ≡ o → function_called s at k es o ≡ Ok r → IsSound names r
