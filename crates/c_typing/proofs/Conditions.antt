@@ -1,6 +1,6 @@
 -- Expressions in statements: evaluated, tested, returned.
-use Rattle.std.proofs.Common.{◌≡◌, Bool, true, false, not, List, refl, sym, ◌∙◌, ap, subst}
-use Rattle.std.specs.Prelude.{Ok, Err, Option, Some, None, IfSome, IsTrue}
+use Rattle.std.proofs.Common.{◌≡◌, true, refl, sym, ◌∙◌, ap, subst}
+use Rattle.std.specs.Prelude.{Ok, Option, Some, None, IfSome}
 use Rattle.c_words.specs.declared.place.At.{At}
 use Rattle.c_words.specs.declared.operators.UnaryOperator.TheVariants as unary
 use Rattle.c_tree.specs.Syntax.{ExpressionTree}
@@ -8,19 +8,17 @@ use Rattle.c_typed.specs.Types.{CType}
 use Rattle.c_typed.specs.TypedTree.{CExpr, CForm, CStart, CStmt}
 use Rattle.c_typed.specs.Sizes.{IsType}
 use Rattle.c_typed.specs.TypedOperands.{IsGiven}
-use Rattle.c_typed.specs.TypedRules.{IsCondition}
-use Rattle.c_typed.specs.TypedBody.{Environment, IsExpr, IsEvaluated, IsEvaluatedIfAny, IsTested, IsTestedIfAny, IsStart, IsStmt}
-use Rattle.c_rules.specs.declared.error.TypeError.TheVariants.{BadType}
-use Rattle.c_rules.specs.Rule.{Rule, ◌>>=◌, refuse}
+use Rattle.c_typed.specs.TypedBody.{Environment, IsEvaluated, IsEvaluatedIfAny, IsTested, IsTestedIfAny, IsStart, IsStmt}
+use Rattle.c_rules.specs.Rule.{Rule, ◌>>=◌}
 use Rattle.c_rules.specs.Conversions.{decayed, given, is_void}
-use Rattle.c_rules.specs.Operators.{comma_rule, tested, unary_rule}
+use Rattle.c_rules.specs.Operators.{comma_rule, tested}
 use Rattle.c_rules.specs.Sound.{IsOperand, OperatorsAreSound}
 use Rattle.c_types.specs.Scene.{CScene}
 use Rattle.c_types.specs.Expressions.{typed}
 use Rattle.c_types.specs.Statements.{CAround, evaluated, condition, if_any, start_expression, returned}
 use Rattle.c_places.specs.InRange.{ExpressionInRange}
-use Rattle.c_typing.proofs.Scenes.{at_structs, GrowsWithin, Formed, Fits}
-use Rattle.c_typing.proofs.Steps.{passes, bound, same_ok, not_false}
+use Rattle.c_typing.proofs.Scenes.{at_structs, Formed}
+use Rattle.c_typing.proofs.Steps.{passes, bound, not_false}
 use Rattle.c_typing.proofs.TypedGrows.{typed_grows}
 use Rattle.c_typing.proofs.Later.{type_later}
 use Rattle.c_typing.proofs.LaterStructs.{formed_on}

@@ -1,10 +1,9 @@
 -- What statements make of a scene, and what is known of what they make.
-use Rattle.std.proofs.Common.{◌≡◌, ℕ, zero, suc, ◌+◌, Bool, true, false, List, [], ◌∷◌, ◌++◌, length, refl, sym, ◌∙◌, ap, subst, arith}
-use Rattle.std.specs.Prelude.{Ok, Err, All, Some, map, slice_get}
+use Rattle.std.proofs.Common.{◌≡◌, ℕ, List, [], ◌∷◌, ◌++◌, length, sym, ◌∙◌, ap, subst}
+use Rattle.std.specs.Prelude.{Ok, All, Some, slice_get}
 use Rattle.std.proofs.lemmas.List.{append_assoc, append-nil, map-append, length-map}
 use Rattle.std.proofs.lemmas.List.Elements.{All-nil, All-push, All-weaker, All-head, All-tail, All-cons}
 use Rattle.c_typed.specs.Types.{CType}
-use Rattle.c_typed.specs.TypedTree.{CStruct}
 use Rattle.c_typed.specs.Sizes.{IsType}
 use Rattle.c_typed.specs.TypedBody.{Environment}
 use Rattle.c_rules.specs.Rule.{Rule}

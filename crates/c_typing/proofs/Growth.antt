@@ -1,29 +1,22 @@
 -- What an expression makes of a scene.
-use Rattle.std.proofs.Common.{◌≡◌, ℕ, zero, suc, ◌+◌, ◌<◌, ◌≤◌, Bool, true, false, List, [], ◌∷◌, ◌++◌, length, refl, sym, ◌∙◌, ap, subst, arith}
-use Rattle.std.specs.Prelude.{Ok, Err, Option, Some, None, All, slice_get, slice_set, nat_lt}
+use Rattle.std.proofs.Common.{◌≡◌, ℕ, ◌+◌, ◌<◌, ◌≤◌, Bool, true, List, [], ◌∷◌, ◌++◌, length, refl, sym, ◌∙◌, ap, subst, arith}
+use Rattle.std.specs.Prelude.{Ok, Option, Some, None, slice_get, slice_set}
 use Rattle.std.proofs.lemmas.List.{append_assoc, append-nil, length-append}
 use Rattle.std.proofs.lemmas.List.Elements.{All-nil, All-append, All-push, All-weaker, All-cons}
 use Rattle.c_words.specs.declared.place.At.{At}
 use Rattle.c_tree.specs.declared.syntax.specifiers.Specifier.{Specifier as SpecifierTree}
 use Rattle.c_tree.specs.declared.syntax.specifiers.Specifier.TheVariants as words
-use Rattle.c_tree.specs.Syntax.{ExpressionTree, ExpressionTrees, TypeNameTree, TypeDeclaratorTree}
-use Rattle.c_typed.specs.TypedTree.{CExpr, CForm, CStruct}
+use Rattle.c_typed.specs.TypedTree.{CExpr, CStruct}
 use Rattle.c_typed.specs.TypedBody.{IsBytes}
 use Rattle.c_typed.specs.Typed.{IsString}
 use Rattle.c_typed.specs.Sizes.{IsType}
-use Rattle.c_typed.specs.Types.{CType}
-use Rattle.c_typed.specs.TypedViews.{exprs}
-use Rattle.c_typed.specs.TypedRules.{Prototype, prototype_in_library}
-use Rattle.c_typed.specs.declared.typed_expr.Called.TheVariants.{Defined, Library}
 use Rattle.c_rules.specs.Rule.{Rule, ◌>>=◌}
-use Rattle.c_rules.specs.Operators.{call_rule, unary_rule, binary_rule, step_before_rule, step_after_rule, conditional_rule, cast_rule, index_rule, member_rule, arrow_rule, measured_rule, measured_type, assign_rule}
 use Rattle.c_types.specs.declared.calls.Callee.{Callee}
 use Rattle.c_types.specs.declared.calls.Callee.TheVariants as callee
 use Rattle.c_types.specs.Names.{found}
 use Rattle.c_types.specs.Scene.{CScene, CDeclared}
-use Rattle.c_types.specs.Parts.{CPart, formed}
-use Rattle.c_types.specs.Expressions.{object, callee_of, called_first, called_if_named, function_called, joined, text, tagged_by, tagged, based, aside, back, counted_by, counted, pointed, typed, typed_all, type_named, steps_of, sized}
-use Rattle.c_places.specs.InRange.{ExpressionInRange, ExpressionsInRange, TypeNameInRange, TypeDeclaratorInRange, OfEach, AreBytes}
+use Rattle.c_types.specs.Expressions.{called_first, called_if_named, function_called, joined, text, tagged_by, tagged, based, aside, back, counted_by}
+use Rattle.c_places.specs.InRange.{OfEach, AreBytes}
 use Rattle.c_typing.proofs.Scenes.{IsTag, HasMoreTags, AreNumbered, AreCalled, HasMoreTexts, Grows, GrowsWithin}
 use Rattle.c_typing.proofs.Steps.{passes, bound, same_ok, not_less, All-found, flag_kept, set_length}
 

@@ -1,25 +1,25 @@
 -- Initializers keep the rules of typing.
-use Rattle.std.proofs.Common.{◌≡◌, ℕ, zero, suc, ◌≤◌, Bool, true, false, not, ◌&&◌, ◌||◌, ◌==◌, ◌⊎◌, inl, inr, List, [], ◌∷◌, ◌++◌, length, refl, sym, ◌∙◌, ap, subst, arith}
-use Rattle.std.specs.Prelude.{Ok, Err, Option, Some, None, All, IsTrue, slice_get, nat_lt, if◌then◌else◌}
+use Rattle.std.proofs.Common.{◌≡◌, ℕ, suc, ◌≤◌, Bool, true, false, ◌&&◌, ◌||◌, ◌==◌, ◌⊎◌, inl, inr, List, [], ◌∷◌, ◌++◌, length, refl, sym, ◌∙◌, ap, subst, arith}
+use Rattle.std.specs.Prelude.{Ok, Err, Option, Some, None, slice_get, nat_lt, if◌then◌else◌}
 use Rattle.std.proofs.lemmas.Bool.Decides.{nat_tests}
 use Rattle.c_words.specs.declared.place.At.{At}
 use Rattle.c_tree.specs.Syntax.{ExpressionTree, InitializerTree, InitializerTrees}
 use Rattle.c_typed.specs.Types.{CType, same, is_array, is_struct}
-use Rattle.c_typed.specs.TypedTree.{CExpr, CInitial, CInitials, CMember, CStruct, type_of}
+use Rattle.c_typed.specs.TypedTree.{CExpr, CInitial, CMember, CStruct, type_of}
 use Rattle.c_typed.specs.TypedViews.{initials as listed}
-use Rattle.c_typed.specs.Sizes.{IsType, IsComplete, member_type, members_of, member_at}
-use Rattle.c_typed.specs.TypedOperands.{is_place, IsGiven}
-use Rattle.c_typed.specs.TypedRules.{part_type, IsCopied, IsFilled}
-use Rattle.c_typed.specs.TypedBody.{Environment, IsBytes, IsExpr, IsInitial, AreInitials, IsInitialized}
+use Rattle.c_typed.specs.Sizes.{IsType, member_type, members_of}
+use Rattle.c_typed.specs.TypedOperands.{is_place}
+use Rattle.c_typed.specs.TypedRules.{part_type}
+use Rattle.c_typed.specs.TypedBody.{Environment, IsBytes, IsInitial, AreInitials, IsInitialized}
 use Rattle.c_typed.specs.Typed.{IsStruct}
 use Rattle.c_rules.specs.declared.error.TypeError.TheVariants.{BadType}
-use Rattle.c_rules.specs.Rule.{Rule, ◌>>=◌, refuse}
+use Rattle.c_rules.specs.Rule.{Rule, ◌>>=◌}
 use Rattle.c_rules.specs.Conversions.{decayed, given, is_void}
 use Rattle.c_rules.specs.Operators.{copied_from}
 use Rattle.c_rules.specs.Sound.{IsOperand, OperatorsAreSound}
 use Rattle.c_types.specs.Scene.{CScene}
 use Rattle.c_types.specs.Expressions.{typed, joined}
-use Rattle.c_types.specs.Initializers.{allowed, looked_at, all_looked_at, string_of, room_of, aggregate_from, value_from, part_from, part_or_excess, initial, initials, copied, struct_copied, initialized}
+use Rattle.c_types.specs.Initializers.{allowed, all_looked_at, string_of, room_of, aggregate_from, value_from, part_from, part_or_excess, initial, initials, copied, struct_copied, initialized}
 use Rattle.c_places.specs.InRange.{ExpressionInRange, InitializerInRange, InitializersInRange}
 use Rattle.c_typing.proofs.Scenes.{at_structs, AreStructs, GrowsWithin, Formed, Fits}
 use Rattle.c_typing.proofs.Steps.{passes, bound, chosen, same_ok, not_false, not_less, All-slice_get}
@@ -277,9 +277,11 @@ module _ (sound : OperatorsAreSound) (names : Environment) where
         let part = part_is s.structs t i p.type formed.structs type p.is in
         initials_are is_global (vs ++ p.first.0 ∷ []) u line t (suc i) xs range.1 (formed_on s u grows formed) (type_later s.structs u.structs later t type) (one_after 0 vs p.first.0 ∙ ap suc place) r p.rest_is
         (λ now. one_behind (at_structs names u.structs) t 0 vs p.first.0
-            (initials_later s.structs u.structs later names t 0 (listed vs) (before (fits_back names s u grows now)))
-            (p.type, subst (λ n. part_type u.structs t n ≡ Some p.type) (sym place) (part_later s.structs u.structs later t i p.type p.is),
-            initial_is is_global s line p.type x range.0 formed part p.first p.first_is now))
+        (initials_later s.structs u.structs later names t 0 (listed vs) (before (fits_back names s u grows now))) (
+          p.type,
+          subst (λ n. part_type u.structs t n ≡ Some p.type) (sym place) (part_later s.structs u.structs later t i p.type p.is),
+          initial_is is_global s line p.type x range.0 formed part p.first p.first_is now,
+        ))
         fits
 
   struct_is : (is_global : Bool) (s : CScene) (line : ℕ) (t : CType) (i : InitializerTree) → is_struct t ≡ true → InitializerInRange i → Formed s → IsType s.structs t → (r : Typed)

@@ -1,6 +1,6 @@
 -- What keeps the rules of typing does so when more structs are known.
-use Rattle.std.proofs.Common.{◌≡◌, ℕ, zero, suc, ◌+◌, ◌*◌, ◌<◌, ◌≤◌, Bool, true, false, List, [], ◌∷◌, ◌++◌, length, refl, sym, ◌∙◌, ap, subst, arith}
-use Rattle.std.specs.Prelude.{Option, Some, None, All, slice_get, IsTrue}
+use Rattle.std.proofs.Common.{◌≡◌, ℕ, ◌*◌, ◌≤◌, true, List, [], ◌∷◌, ◌++◌, length, refl, sym, ◌∙◌, ap, subst, arith}
+use Rattle.std.specs.Prelude.{Option, Some, None, slice_get}
 use Rattle.c_words.specs.declared.operators.UnaryOperator.{UnaryOperator}
 use Rattle.c_words.specs.declared.operators.UnaryOperator.TheVariants as unary
 use Rattle.c_words.specs.declared.operators.BinaryOperator.{BinaryOperator}
@@ -9,8 +9,8 @@ use Rattle.c_words.specs.declared.operators.AssignOperator.{AssignOperator}
 use Rattle.c_words.specs.declared.operators.AssignOperator.TheVariants as assign
 use Rattle.c_typed.specs.Types.{CType}
 use Rattle.c_typed.specs.TypedTree.{CExpr, CForm, CExprs, CMember, CStruct, type_of}
-use Rattle.c_typed.specs.Sizes.{largest, struct_size, size_of, has_members, is_complete, IsComplete, IsType, member_type, members_of, member_at}
-use Rattle.c_typed.specs.TypedRules.{IsPointerToComplete, IsMoved, AreAdded, AreApart, AreSubtracted, IsFollowed, IsUnary, IsBinary, IsElement, IsMember, IsMemberBehind, CanStep, IsStepped, IsChanged, IsAssignment, IsMeasured, part_type}
+use Rattle.c_typed.specs.Sizes.{largest, struct_size, size_of, has_members, IsComplete, IsType, member_type, members_of, member_at}
+use Rattle.c_typed.specs.TypedRules.{IsPointerToComplete, IsMoved, AreAdded, AreSubtracted, IsFollowed, IsUnary, IsBinary, IsElement, IsMember, IsMemberBehind, CanStep, IsStepped, IsChanged, IsAssignment, IsMeasured, part_type}
 use Rattle.c_typed.specs.TypedBody.{Environment, IsExpr, IsForm, AreExprs}
 use Rattle.c_rules.specs.Sound.{IsOperand}
 use Rattle.c_typing.proofs.Scenes.{at_structs, Extends, HasMoreTags}

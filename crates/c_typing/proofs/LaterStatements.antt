@@ -1,5 +1,5 @@
 -- Initializers and statements keep the rules of typing when more structs are known.
-use Rattle.std.specs.Prelude.{◌≡◌, ℕ, suc, Bool, true, Option, Some, None, List, [], ◌∷◌}
+use Rattle.std.specs.Prelude.{ℕ, suc, Bool, true, Option, Some, None, List, [], ◌∷◌}
 use Rattle.c_typed.specs.Types.{CType}
 use Rattle.c_typed.specs.TypedTree.{CExpr, CInitial, CInitials, CInitializer, CDeclaration, CStart, CStmt, CStmts, CStruct}
 use Rattle.c_typed.specs.TypedBody.{Environment, IsInitial, AreInitials, IsInitialized, MayInitialize, IsDeclaration, AreDeclarations, IsEvaluated, IsEvaluatedIfAny, IsTested, IsTestedIfAny, IsStart, IsExprIfAny, IsStmt, AreStmts}

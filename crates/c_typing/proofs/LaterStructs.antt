@@ -1,18 +1,18 @@
 -- Structs have their layout when more structs are known, and what is declared in a scene stays well formed as it grows.
-use Rattle.std.proofs.Common.{◌≡◌, ℕ, zero, suc, ◌+◌, ◌*◌, ◌<◌, ◌≤◌, max, Bool, true, false, List, [], ◌∷◌, ◌++◌, length, refl, sym, ◌∙◌, ap, subst, arith}
-use Rattle.std.specs.Prelude.{Option, Some, None, All, map, slice_get}
+use Rattle.std.proofs.Common.{◌≡◌, ℕ, ◌+◌, max, List, [], ◌∷◌, length, refl, sym, ◌∙◌, ap, subst, arith}
+use Rattle.std.specs.Prelude.{Some, None, All, slice_get}
 use Rattle.std.proofs.lemmas.List.Elements.{All-nil, All-append, All-weaker, All-head, All-tail}
 use Rattle.c_typed.specs.Types.{CType}
 use Rattle.c_typed.specs.TypedTree.{CMember, CStruct}
-use Rattle.c_typed.specs.Sizes.{largest, struct_align, size_of, align_of, has_members, IsComplete, IsType, rounded_up, AreInOrder, end_of, greatest_align}
+use Rattle.c_typed.specs.Sizes.{struct_align, size_of, align_of, IsComplete, IsType, rounded_up, AreInOrder, end_of, greatest_align}
 use Rattle.c_typed.specs.Typed.{IsStruct}
 use Rattle.c_typed.specs.TypedBody.{Environment}
-use Rattle.c_types.specs.Scene.{CScene, CEntry, CDeclared, CDraft, CLocalName}
+use Rattle.c_types.specs.Scene.{CScene, CEntry, CDeclared, CDraft}
 use Rattle.c_types.specs.Parts.{CParam, CPart}
 use Rattle.c_typing.proofs.Scenes.{AreStructs, IsTag, IsFront, Extends, HasMoreTags, Grows, GrowsWithin, IsEntry, IsDeclared, IsDraft, IsNamed, Formed, StandsAs, Fits, draft_types}
 use Rattle.c_typing.proofs.Steps.{front_kept}
 use Rattle.c_typing.proofs.Later.{struct_later, complete_later, size_later, type_later, tags_extend}
-use Rattle.c_typing.proofs.MadeTypes.{IsParam, AreParams, IsPart, AreParts}
+use Rattle.c_typing.proofs.MadeTypes.{AreParams, IsPart, AreParts}
 
 module _ (old new : List CStruct) (later : Extends old new) where
   pub align_later : (t : CType) → IsComplete old t → align_of new t ≡ align_of old t
@@ -30,10 +30,11 @@ module _ (old new : List CStruct) (later : Extends old new) where
   pub in_order_later : (from : ℕ) (ms : List CMember) → All Complete ms → AreInOrder old from ms → AreInOrder new from ms
   in_order_later from [] complete h = tt
   in_order_later from (m ∷ ms) complete h =
-      let whole = All-head Complete m ms complete in
-      (h.0 ∙ ap (rounded_up from) (sym (align_later m.ty whole)),
-      subst (λ size. AreInOrder new (m.offset + size) ms) (sym (size_later old new later m.ty whole))
-      (in_order_later (m.offset + size_of old m.ty) ms (All-tail Complete m ms complete) h.1))
+      let whole = All-head Complete m ms complete in (
+        h.0 ∙ ap (rounded_up from) (sym (align_later m.ty whole)),
+        subst (λ size. AreInOrder new (m.offset + size) ms) (sym (size_later old new later m.ty whole))
+            (in_order_later (m.offset + size_of old m.ty) ms (All-tail Complete m ms complete) h.1),
+      )
 
   pub end_later : (from : ℕ) (ms : List CMember) → All Complete ms → end_of new from ms ≡ end_of old from ms
   end_later from [] complete = refl
@@ -72,9 +73,10 @@ module _ (old new : List CStruct) (later : Extends old new) where
 
   pub params_later : (ps : List CParam) → AreParams old ps → AreParams new ps
   params_later [] h = tt
-  params_later (p ∷ ps) h =
-      (record { type = type_later old new later p.ty h.0.type; complete = complete_later old new later p.ty h.0.complete; no_array = h.0.no_array },
-      params_later ps h.1)
+  params_later (p ∷ ps) h = (
+    record { type = type_later old new later p.ty h.0.type; complete = complete_later old new later p.ty h.0.complete; no_array = h.0.no_array },
+    params_later ps h.1,
+  )
 
   pub part_is_later : (p : CPart) → IsPart old p → IsPart new p
   part_is_later CPart.Pointer h = tt

@@ -1,31 +1,30 @@
 -- The declarations of a block.
-use Rattle.std.proofs.Common.{◌≡◌, ℕ, Bool, true, false, List, [], ◌∷◌, ◌++◌, length, refl, sym, ◌∙◌, ap, subst}
-use Rattle.std.specs.Prelude.{Ok, Err, Option, Some, None, IfSome, slice_get}
+use Rattle.std.proofs.Common.{◌≡◌, ℕ, false, List, [], ◌∷◌, ◌++◌, length, refl}
+use Rattle.std.specs.Prelude.{Ok, Option, Some, None, IfSome, slice_get}
 use Rattle.c_words.specs.declared.place.At.{At}
 use Rattle.c_tree.specs.Syntax.{InitializerTree, InitDeclaratorTree, DeclarationTree}
 use Rattle.c_tree.specs.GrammarDeclarations.{declarator_at}
 use Rattle.c_typed.specs.Types.{CType}
-use Rattle.c_typed.specs.TypedTree.{CDeclaration, CStruct}
+use Rattle.c_typed.specs.TypedTree.{CDeclaration}
 use Rattle.c_typed.specs.Sizes.{IsType}
 use Rattle.c_typed.specs.TypedBody.{Environment, IsDeclaration, AreDeclarations}
-use Rattle.c_rules.specs.Rule.{Rule, ◌>>=◌}
 use Rattle.c_rules.specs.Sound.{OperatorsAreSound}
 use Rattle.c_types.specs.Scene.{CScene}
 use Rattle.c_types.specs.Expressions.{based}
-use Rattle.c_types.specs.Declarators.{is_taken, declarator_steps, declared_name, completed, object_type}
+use Rattle.c_types.specs.Declarators.{declarator_steps, declared_name, completed, object_type}
 use Rattle.c_types.specs.Initializers.{initialized}
 use Rattle.c_types.specs.Statements.{with_local, initialized_local, local, locals, declaration}
 use Rattle.c_places.specs.InRange.{OfEach, InitializerInRange, InitDeclaratorInRange, DeclarationInRange}
-use Rattle.c_typing.proofs.Scenes.{at_structs, AreNumbered, IsDraft, draft_types, Formed, Fits}
-use Rattle.c_typing.proofs.Steps.{passes, bound, same_ok}
-use Rattle.c_typing.proofs.Growth.{within_same, based_grows, based_type}
+use Rattle.c_typing.proofs.Scenes.{at_structs, AreNumbered, IsDraft, draft_types, Formed}
+use Rattle.c_typing.proofs.Steps.{passes, bound}
+use Rattle.c_typing.proofs.Growth.{based_grows, based_type}
 use Rattle.c_typing.proofs.Later.{tags_extend, type_later}
-use Rattle.c_typing.proofs.LaterStructs.{formed_on, fits_back}
+use Rattle.c_typing.proofs.LaterStructs.{fits_back}
 use Rattle.c_typing.proofs.LaterStatements.{declarations_later}
 use Rattle.c_typing.proofs.MadeTypes.{object_type_is}
 use Rattle.c_typing.proofs.DeclaratorParts.{declarator_parts, completed_parts}
 use Rattle.c_typing.proofs.InitialTypes.{initialized_grows, initialized_is}
-use Rattle.c_typing.proofs.Goes.{Goes, goes_same, goes_then, goes_within, extended, fits_goes, local_at, with_local_goes, local_type, Holds, holds_end, HoldsBehind, behind_same, behind_end, behind_then}
+use Rattle.c_typing.proofs.Goes.{goes_same, goes_then, goes_within, extended, fits_goes, local_at, with_local_goes, local_type, Holds, holds_end, HoldsBehind, behind_same, behind_end, behind_then}
 
 declared_behind : (names : Environment) (ds : List CDeclaration) (d : CDeclaration) → AreDeclarations names ds → IsDeclaration names d → AreDeclarations names (ds ++ d ∷ [])
 declared_behind names [] d are is = (is, tt)
@@ -61,10 +60,10 @@ module _ (sound : OperatorsAreSound) (names : Environment) where
       let has = declarator_parts [] s d.declarator range.1 ps.0 ps.1 in
       let later = tags_extend s.structs ps.0.1.structs has.grows.grows.structs in
       let draft : Formed s → IsDraft ps.0.1.structs (record { name = x; ty = t.0 }) =
-          λ formed.
-          let parts = completed_parts ps.0.1.structs base d.initializer ps.0.0 range.2 (has.parts formed.tags tt) in
-          let is = object_type_is ps.0.1.structs at.line base (completed base d.initializer ps.0.0) t.0 (type_later s.structs ps.0.1.structs later base type) parts t.1 in
-          record { type = is.type; complete = is.complete refl } in
+      λ formed.
+      let parts = completed_parts ps.0.1.structs base d.initializer ps.0.0 range.2 (has.parts formed.tags tt) in
+      let is = object_type_is ps.0.1.structs at.line base (completed base d.initializer ps.0.0) t.0 (type_later s.structs ps.0.1.structs later base type) parts t.1 in
+      record { type = is.type; complete = is.complete refl } in
       let w = with_local ps.0.1 x t.0 in
       let goes = with_local_goes s ps.0.1 x t.0 (goes_within s ps.0.1 has.grows) draft in
       let holds = initialized_local_is w at (length ps.0.1.locals) t.0 d.at d.initializer range.2 (local_at ps.0.1 x t.0) (local_type ps.0.1 x t.0) r t.2 in

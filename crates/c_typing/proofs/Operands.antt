@@ -1,11 +1,10 @@
 -- Names, strings and calls as operands.
-use Rattle.std.proofs.Common.{◌≡◌, ℕ, zero, suc, ◌+◌, ◌*◌, ◌<◌, ◌≤◌, ◌^◌, Bool, true, false, ◌⊎◌, inl, inr, List, [], ◌∷◌, ◌++◌, length, refl, sym, ◌∙◌, ap, subst, arith}
-use Rattle.std.specs.Prelude.{Ok, Err, Option, Some, None, All, map, slice_get, slice_set, if◌then◌else◌}
+use Rattle.std.proofs.Common.{◌≡◌, ℕ, ◌+◌, ◌*◌, ◌<◌, ◌≤◌, ◌^◌, Bool, true, false, List, [], ◌∷◌, ◌++◌, length, refl, sym, ◌∙◌, subst, arith}
+use Rattle.std.specs.Prelude.{Ok, Option, Some, None, All, slice_get, slice_set, if◌then◌else◌}
 use Rattle.std.specs.Option.{option_map}
 use Rattle.std.proofs.lemmas.Option.{slice_get-map, slice_get_within}
 use Rattle.std.proofs.lemmas.List.Elements.{All-nil, All-head, All-tail, All-cons}
 use Rattle.c_words.specs.declared.place.At.{At}
-use Rattle.c_tree.specs.Syntax.{ExpressionTree}
 use Rattle.c_typed.specs.declared.typed_expr.LibCall.{LibCall}
 use Rattle.c_typed.specs.declared.typed_expr.LibCall.TheVariants.{Putchar, Getchar, Exit, Malloc, Calloc, Free, Memcpy, Memset}
 use Rattle.c_typed.specs.declared.typed_expr.Called.{Called}
@@ -13,10 +12,9 @@ use Rattle.c_typed.specs.declared.typed_expr.Called.TheVariants.{Defined, Librar
 use Rattle.c_typed.specs.Types.{CType}
 use Rattle.c_typed.specs.TypedTree.{CExpr, CForm, CExprs, CStruct}
 use Rattle.c_typed.specs.TypedViews.{exprs}
-use Rattle.c_typed.specs.Sizes.{largest, IsType, IsComplete}
-use Rattle.c_typed.specs.TypedRules.{Prototype, prototype_in_library, called_prototype, AreGiven, IsCall}
-use Rattle.c_typed.specs.TypedBody.{Environment, IsLiteral, IsText, IsBytes, IsExpr, AreExprs}
-use Rattle.c_rules.specs.declared.error.TypeError.TheVariants.{Unknown, BadType}
+use Rattle.c_typed.specs.Sizes.{largest, IsType}
+use Rattle.c_typed.specs.TypedRules.{Prototype, prototype_in_library, called_prototype, AreGiven}
+use Rattle.c_typed.specs.TypedBody.{Environment, IsLiteral, AreExprs}
 use Rattle.c_rules.specs.Rule.{Rule, ◌>>=◌}
 use Rattle.c_rules.specs.Conversions.{given}
 use Rattle.c_rules.specs.Operators.{passed, call_rule}
@@ -25,10 +23,10 @@ use Rattle.c_types.specs.declared.calls.Callee.{Callee}
 use Rattle.c_types.specs.declared.calls.Callee.TheVariants as callee
 use Rattle.c_types.specs.Names.{found, or_else}
 use Rattle.c_types.specs.Scene.{CScene, CLocalName, CEntry, CDeclared, CDraft, local_in}
-use Rattle.c_types.specs.Expressions.{object_by, object, in_library, text, function_called, library_called, called_if_named}
+use Rattle.c_types.specs.Expressions.{object_by, object, in_library, text, function_called, called_if_named}
 use Rattle.c_typing.proofs.Scenes.{at_structs, IsDraft, IsNamed, IsEntry, StandsAs, draft_types, Formed, Fits, IsDeclared, prototype_by, GrowsWithin}
 use Rattle.c_typing.proofs.Steps.{passes, bound, same_ok, not_less, All-slice_get, All-found, at_end, flag_set}
-use Rattle.c_typing.proofs.Growth.{within_same, called_grows}
+use Rattle.c_typing.proofs.Growth.{called_grows}
 use Rattle.c_typing.proofs.Later.{operand_later, tags_extend}
 use Rattle.c_typing.proofs.LaterStructs.{fits_back}
 

@@ -1,22 +1,22 @@
 -- Statements keep the rules of typing.
-use Rattle.std.proofs.Common.{◌≡◌, Bool, true, false, not, List, [], ◌∷◌, ◌++◌, refl, sym, ◌∙◌, ap, subst}
-use Rattle.std.specs.Prelude.{Ok, Err, Option, Some, None, IsTrue, map}
+use Rattle.std.proofs.Common.{◌≡◌, Bool, true, not, List, [], ◌∷◌, ◌++◌, subst}
+use Rattle.std.specs.Prelude.{Ok, IsTrue, map}
 use Rattle.c_tree.specs.Syntax.{ForStartTree, StatementTree, BlockTree, BlockItemTree, BlockItemTrees}
-use Rattle.c_typed.specs.TypedTree.{CDeclaration, CStart, CStmt, CStmts}
+use Rattle.c_typed.specs.TypedTree.{CDeclaration, CStart, CStmt}
 use Rattle.c_typed.specs.TypedViews.{stmts}
-use Rattle.c_typed.specs.TypedBody.{Environment, IsDeclaration, AreDeclarations, IsEvaluated, IsEvaluatedIfAny, IsTested, IsTestedIfAny, IsStart, IsStmt, AreStmts}
+use Rattle.c_typed.specs.TypedBody.{Environment, AreDeclarations, IsStart, IsStmt, AreStmts}
 use Rattle.c_typed.specs.Typed.{IsBlock}
 use Rattle.c_rules.specs.declared.error.TypeError.TheVariants.{BadType}
-use Rattle.c_rules.specs.Rule.{Rule, ◌>>=◌, refuse}
+use Rattle.c_rules.specs.Rule.{refuse}
 use Rattle.c_rules.specs.Sound.{OperatorsAreSound}
 use Rattle.c_types.specs.Scene.{CScene}
 use Rattle.c_types.specs.Declarators.{opened, closed}
 use Rattle.c_types.specs.Statements.{CAround, within_loop, declaration, evaluated, condition, if_any, start, statement, block, items, item}
 use Rattle.c_places.specs.InRange.{ForStartInRange, StatementInRange, BlockInRange, ItemInRange, ItemsInRange}
-use Rattle.c_typing.proofs.Scenes.{at_structs, Formed, Fits}
+use Rattle.c_typing.proofs.Scenes.{at_structs, Formed}
 use Rattle.c_typing.proofs.Steps.{passes, bound, same_ok, not_false}
-use Rattle.c_typing.proofs.LaterStatements.{declarations_later, evaluated_if_later, tested_later, tested_if_later, start_later, stmt_later, stmts_later}
-use Rattle.c_typing.proofs.Goes.{Goes, goes_same, goes_then, extended, fits_goes, opened_goes, closed_goes, Holds, holds_end, HoldsBehind, behind_same, behind_end, behind_then}
+use Rattle.c_typing.proofs.LaterStatements.{evaluated_if_later, tested_later, tested_if_later, start_later, stmt_later, stmts_later}
+use Rattle.c_typing.proofs.Goes.{goes_same, goes_then, extended, fits_goes, opened_goes, closed_goes, Holds, holds_end, HoldsBehind, behind_same, behind_end, behind_then}
 use Rattle.c_typing.proofs.Conditions.{IsAround, around_later, evaluated_is, condition_is, test_is, step_is, start_is, returned_is}
 use Rattle.c_typing.proofs.LocalTypes.{declaration_is}
 
@@ -84,9 +84,10 @@ module _ (sound : OperatorsAreSound) (names : Environment) where
         holds_end names (λ E. IsStmt E a.in_loop) s y.0.1 (CStmt.If at c.0.0 y.0.0) r y.2
         (record {
           goes = goes_then s c.0.1 y.0.1 test.goes holds.goes;
-          is = λ formed fits.
-              (tested_later c.0.1.structs y.0.1.structs (extended c.0.1 y.0.1 holds.goes) names c.0.0 (test.is formed (fits_goes names c.0.1 y.0.1 holds.goes fits)),
-              holds.is (test.goes.formed formed) fits);
+          is = λ formed fits. (
+            tested_later c.0.1.structs y.0.1.structs (extended c.0.1 y.0.1 holds.goes) names c.0.0 (test.is formed (fits_goes names c.0.1 y.0.1 holds.goes fits)),
+            holds.is (test.goes.formed formed) fits,
+          );
         })
     statement_is a s (StatementTree.IfElse at e x z) range formed around r h =
         let c = bound (condition s at.line e) _ r h in
@@ -100,11 +101,12 @@ module _ (sound : OperatorsAreSound) (names : Environment) where
         holds_end names (λ E. IsStmt E a.in_loop) s w.0.1 (CStmt.IfElse at c.0.0 y.0.0 w.0.0) r w.2
         (record {
           goes = goes_then s c.0.1 w.0.1 test.goes both;
-          is = λ formed fits.
-              (tested_later c.0.1.structs w.0.1.structs (extended c.0.1 w.0.1 both) names c.0.0 (test.is formed (fits_goes names c.0.1 w.0.1 both fits)),
-              stmt_later y.0.1.structs w.0.1.structs (extended y.0.1 w.0.1 second.goes) names a.in_loop y.0.0
-              (first.is (test.goes.formed formed) (fits_goes names y.0.1 w.0.1 second.goes fits)),
-              second.is (first.goes.formed (test.goes.formed formed)) fits);
+          is = λ formed fits. (
+            tested_later c.0.1.structs w.0.1.structs (extended c.0.1 w.0.1 both) names c.0.0 (test.is formed (fits_goes names c.0.1 w.0.1 both fits)),
+            stmt_later y.0.1.structs w.0.1.structs (extended y.0.1 w.0.1 second.goes) names a.in_loop y.0.0
+                (first.is (test.goes.formed formed) (fits_goes names y.0.1 w.0.1 second.goes fits)),
+            second.is (first.goes.formed (test.goes.formed formed)) fits,
+          );
         })
     statement_is a s (StatementTree.While at e x) range formed around r h =
         let c = bound (condition s at.line e) _ r h in
@@ -115,9 +117,10 @@ module _ (sound : OperatorsAreSound) (names : Environment) where
         holds_end names (λ E. IsStmt E a.in_loop) s y.0.1 (CStmt.While at c.0.0 y.0.0) r y.2
         (record {
           goes = goes_then s c.0.1 y.0.1 test.goes holds.goes;
-          is = λ formed fits.
-              (tested_later c.0.1.structs y.0.1.structs (extended c.0.1 y.0.1 holds.goes) names c.0.0 (test.is formed (fits_goes names c.0.1 y.0.1 holds.goes fits)),
-              holds.is (test.goes.formed formed) fits);
+          is = λ formed fits. (
+            tested_later c.0.1.structs y.0.1.structs (extended c.0.1 y.0.1 holds.goes) names c.0.0 (test.is formed (fits_goes names c.0.1 y.0.1 holds.goes fits)),
+            holds.is (test.goes.formed formed) fits,
+          );
         })
     statement_is a s (StatementTree.DoWhile at x e) range formed around r h =
         let y = bound (statement (within_loop a) s x) _ r h in
@@ -127,9 +130,10 @@ module _ (sound : OperatorsAreSound) (names : Environment) where
         holds_end names (λ E. IsStmt E a.in_loop) s c.0.1 (CStmt.Do at y.0.0 c.0.0) r c.2
         (record {
           goes = goes_then s y.0.1 c.0.1 holds.goes test.goes;
-          is = λ formed fits.
-              (stmt_later y.0.1.structs c.0.1.structs (extended y.0.1 c.0.1 test.goes) names true y.0.0 (holds.is formed (fits_goes names y.0.1 c.0.1 test.goes fits)),
-              test.is (holds.goes.formed formed) fits);
+          is = λ formed fits. (
+            stmt_later y.0.1.structs c.0.1.structs (extended y.0.1 c.0.1 test.goes) names true y.0.0 (holds.is formed (fits_goes names y.0.1 c.0.1 test.goes fits)),
+            test.is (holds.goes.formed formed) fits,
+          );
         })
     statement_is a s (StatementTree.For at from e step x) range formed around r h =
         let f = bound (start (opened s) from) _ r h in
@@ -157,12 +161,13 @@ module _ (sound : OperatorsAreSound) (names : Environment) where
           goes = goes_then s y.0.1 end g4 (closed_goes y.0.1);
           is = λ formed fits.
               let now = fits_goes names y.0.1 end (closed_goes y.0.1) fits in
-              let f0 = g0.formed formed in
-              (start_later f.0.1.structs y.0.1.structs (extended f.0.1 y.0.1 from_f) names f.0.0 (first.is f0 (fits_goes names f.0.1 y.0.1 from_f now)),
-              tested_if_later c.0.1.structs y.0.1.structs (extended c.0.1 y.0.1 from_c) names c.0.0 (test.is (first.goes.formed f0) (fits_goes names c.0.1 y.0.1 from_c now)),
-              evaluated_if_later u.0.1.structs y.0.1.structs (extended u.0.1 y.0.1 holds.goes) names u.0.0
-              (next.is (test.goes.formed (first.goes.formed f0)) (fits_goes names u.0.1 y.0.1 holds.goes now)),
-              holds.is (next.goes.formed (test.goes.formed (first.goes.formed f0))) now);
+              let f0 = g0.formed formed in (
+                start_later f.0.1.structs y.0.1.structs (extended f.0.1 y.0.1 from_f) names f.0.0 (first.is f0 (fits_goes names f.0.1 y.0.1 from_f now)),
+                tested_if_later c.0.1.structs y.0.1.structs (extended c.0.1 y.0.1 from_c) names c.0.0 (test.is (first.goes.formed f0) (fits_goes names c.0.1 y.0.1 from_c now)),
+                evaluated_if_later u.0.1.structs y.0.1.structs (extended u.0.1 y.0.1 holds.goes) names u.0.0
+                    (next.is (test.goes.formed (first.goes.formed f0)) (fits_goes names u.0.1 y.0.1 holds.goes now)),
+                holds.is (next.goes.formed (test.goes.formed (first.goes.formed f0))) now,
+              );
         })
     statement_is a s (StatementTree.Break at) range formed around r h = leaves a s (CStmt.Break at) at.line r (λ E is. is) h
     statement_is a s (StatementTree.Continue at) range formed around r h = leaves a s (CStmt.Continue at) at.line r (λ E is. is) h

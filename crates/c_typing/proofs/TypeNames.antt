@@ -1,11 +1,11 @@
 -- A type name names a type that may be formed.
-use Rattle.std.proofs.Common.{◌≡◌, ℕ, zero, suc, ◌≤◌, Bool, true, false, ◌&&◌, ◌||◌, List, [], ◌∷◌, ◌++◌, refl, sym, ◌∙◌, ap, subst, arith}
-use Rattle.std.specs.Prelude.{Ok, Err, Option, Some, None, replicate, nat_le, nat_lt, if◌then◌else◌}
+use Rattle.std.proofs.Common.{◌≡◌, ℕ, zero, suc, ◌≤◌, Bool, true, false, ◌&&◌, List, [], ◌∷◌, ◌++◌, refl, subst, arith}
+use Rattle.std.specs.Prelude.{Ok, Option, Some, None, replicate, nat_le, if◌then◌else◌}
 use Rattle.c_tree.specs.Syntax.{ExpressionTree, ExpressionTrees, TypeNameTree, TypeDeclaratorTree}
-use Rattle.c_typed.specs.Types.{CType, is_unsigned}
+use Rattle.c_typed.specs.Types.{CType}
 use Rattle.c_typed.specs.TypedTree.{CExpr, CStruct, type_of}
 use Rattle.c_typed.specs.Sizes.{IsType}
-use Rattle.c_rules.specs.Rule.{Rule, ◌>>=◌}
+use Rattle.c_rules.specs.Rule.{Rule}
 use Rattle.c_rules.specs.Constants.{constant}
 use Rattle.c_types.specs.Scene.{CScene}
 use Rattle.c_types.specs.Parts.{CPart, as_count, is_count, count_of, formed}
@@ -13,8 +13,8 @@ use Rattle.c_types.specs.Expressions.{aside, counted_by, counted, pointed, based
 use Rattle.c_places.specs.InRange.{ExpressionInRange, ExpressionsInRange, TypeNameInRange, TypeDeclaratorInRange}
 use Rattle.c_typing.proofs.Scenes.{AreNumbered, GrowsWithin}
 use Rattle.c_typing.proofs.Steps.{bound, same_ok}
-use Rattle.c_typing.proofs.Growth.{based_grows, based_type, counted_grows}
-use Rattle.c_typing.proofs.TypedGrows.{typed_grows, steps_grow, count_grows}
+use Rattle.c_typing.proofs.Growth.{based_type}
+use Rattle.c_typing.proofs.TypedGrows.{steps_grow, count_grows}
 use Rattle.c_typing.proofs.Later.{tags_extend, type_later}
 use Rattle.c_typing.proofs.LaterStructs.{parts_later}
 use Rattle.c_typing.proofs.MadeTypes.{IsPart, AreParts, parts_behind, formed_is}

@@ -1,14 +1,12 @@
 -- Each expression, and what stands in it, lets a scene grow.
-use Rattle.std.proofs.Common.{◌≡◌, ℕ, true, false, List, [], ◌∷◌, ◌++◌, length, refl, sym, ◌∙◌, ap, subst}
-use Rattle.std.specs.Prelude.{Ok, Err, Option, Some, None}
+use Rattle.std.proofs.Common.{◌≡◌, ℕ, List, [], ◌∷◌, ◌++◌}
+use Rattle.std.specs.Prelude.{Ok, Option}
 use Rattle.c_tree.specs.Syntax.{ExpressionTree, ExpressionTrees, TypeNameTree, TypeDeclaratorTree}
 use Rattle.c_typed.specs.TypedTree.{CExpr}
 use Rattle.c_typed.specs.Types.{CType}
-use Rattle.c_rules.specs.Rule.{Rule, ◌>>=◌}
-use Rattle.c_rules.specs.Operators.{unary_rule, binary_rule, step_before_rule, step_after_rule, conditional_rule, cast_rule, index_rule, member_rule, arrow_rule, measured_rule, measured_type, assign_rule}
 use Rattle.c_types.specs.Scene.{CScene}
-use Rattle.c_types.specs.Parts.{CPart, formed}
-use Rattle.c_types.specs.Expressions.{object, callee_of, called_first, called_if_named, joined, text, based, aside, counted_by, counted, pointed, typed, typed_all, type_named, steps_of, sized}
+use Rattle.c_types.specs.Parts.{CPart}
+use Rattle.c_types.specs.Expressions.{object, callee_of, called_first, joined, based, aside, counted_by, counted, typed, typed_all, type_named, steps_of, sized}
 use Rattle.c_places.specs.InRange.{ExpressionInRange, ExpressionsInRange, TypeNameInRange, TypeDeclaratorInRange}
 use Rattle.c_typing.proofs.Scenes.{GrowsWithin}
 use Rattle.c_typing.proofs.Steps.{bound}

@@ -1,15 +1,14 @@
 -- Each expression that is typed keeps the rules of typing.
-use Rattle.std.proofs.Common.{◌≡◌, ℕ, List, [], ◌∷◌, ◌++◌, refl, sym, ◌∙◌, ap, subst}
-use Rattle.std.specs.Prelude.{Ok, Err, Option, Some, None}
+use Rattle.std.proofs.Common.{◌≡◌, List, [], ◌∷◌, ◌++◌, refl, subst}
+use Rattle.std.specs.Prelude.{Ok}
 use Rattle.c_tree.specs.Syntax.{ExpressionTree, ExpressionTrees}
 use Rattle.c_typed.specs.TypedTree.{CExpr}
 use Rattle.c_typed.specs.TypedBody.{Environment}
-use Rattle.c_rules.specs.Rule.{Rule, ◌>>=◌}
-use Rattle.c_rules.specs.Sound.{IsOperand, OperatorsAreSound}
+use Rattle.c_rules.specs.Sound.{OperatorsAreSound}
 use Rattle.c_types.specs.Scene.{CScene}
-use Rattle.c_types.specs.Expressions.{callee_of, called_first, called_if_named, joined, typed, typed_all, type_named}
+use Rattle.c_types.specs.Expressions.{callee_of, called_first, joined, typed, typed_all, type_named}
 use Rattle.c_places.specs.InRange.{ExpressionInRange, ExpressionsInRange}
-use Rattle.c_typing.proofs.Scenes.{at_structs, GrowsWithin, Formed, Fits}
+use Rattle.c_typing.proofs.Scenes.{at_structs, Formed, Fits}
 use Rattle.c_typing.proofs.Steps.{bound, same_ok}
 use Rattle.c_typing.proofs.Growth.{within_then, first_grows}
 use Rattle.c_typing.proofs.TypedGrows.{typed_grows, all_grows, type_grows}
@@ -98,10 +97,10 @@ module _ (sound : OperatorsAreSound) (names : Environment) where
         let whole = formed_on y.0.1 z.0.1 on second in
         ruled_sound names z.0.1 _ r z.2
         (λ fits.
-            let before = fits_back names y.0.1 z.0.1 on fits in
-            (keeps sound names z.0.1 whole).conditional at x.0.0 y.0.0 z.0.0
-            (carried names x.0.1 z.0.1 x.0.0 (within_then x.0.1 y.0.1 z.0.1 grows on) (typed_is s c range.1 formed x.0 x.1 (fits_back names x.0.1 y.0.1 grows before)))
-            (carried names y.0.1 z.0.1 y.0.0 on (typed_is x.0.1 a range.2 first y.0 y.1 before)) (typed_is y.0.1 b range.3 second z.0 z.1 fits))
+        let before = fits_back names y.0.1 z.0.1 on fits in
+        (keeps sound names z.0.1 whole).conditional at x.0.0 y.0.0 z.0.0
+        (carried names x.0.1 z.0.1 x.0.0 (within_then x.0.1 y.0.1 z.0.1 grows on) (typed_is s c range.1 formed x.0 x.1 (fits_back names x.0.1 y.0.1 grows before)))
+        (carried names y.0.1 z.0.1 y.0.0 on (typed_is x.0.1 a range.2 first y.0 y.1 before)) (typed_is y.0.1 b range.3 second z.0 z.1 fits))
     typed_is s (ExpressionTree.Assign at a op b) range formed r h =
         let x = bound (typed s a) _ r h in
         let y = bound (typed x.0.1 b) _ r x.2 in
