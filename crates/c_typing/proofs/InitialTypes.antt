@@ -39,7 +39,7 @@ and_right : (a b : Bool) → a && b ≡ true → b ≡ true
 and_right true b h = h
 and_right false b h = absurd cc
 
-same_is : (t u : CType) → same t u ≡ true → t ≡ u
+pub same_is : (t u : CType) → same t u ≡ true → t ≡ u
 same_is CType.Void CType.Void h = refl
 same_is CType.Char CType.Char h = refl
 same_is CType.Int CType.Int h = refl
