@@ -11,7 +11,7 @@ use Rattle.c_typed.specs.Sizes.{IsType}
 use Rattle.c_types.specs.Names.{found}
 use Rattle.c_types.specs.Scene.{CScene, CEntry, CDeclared}
 use Rattle.c_types.specs.Expressions.{in_library}
-use Rattle.c_types.specs.Units.{CFile, CDefinitions, number_or_zero, function_is_taken, same_types, agrees, is_again, with_function}
+use Rattle.c_typing.specs.Units.{CFile, CDefinitions, number_or_zero, function_is_taken, same_types, agrees, is_again, with_function}
 use Rattle.c_typing.proofs.Steps.{All-slice_get, front_kept, at_end}
 use Rattle.c_typing.proofs.Scenes.{IsEntry, IsDeclared, Formed, StandsAs, prototype_by}
 use Rattle.c_typing.proofs.Laid.{set_found, set_other, set_size, All-slice_set}

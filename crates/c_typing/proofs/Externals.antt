@@ -16,7 +16,7 @@ use Rattle.c_types.specs.Parts.{CParam, CPart, is_incomplete, has_function, lack
 use Rattle.c_types.specs.Expressions.{based, in_library}
 use Rattle.c_types.specs.Declarators.{declarator_steps, declared_name, has_many_params}
 use Rattle.c_types.specs.Structs.{struct_defined}
-use Rattle.c_types.specs.Units.{CFile, CDefinitions, with_definition, definitions, object_is_taken, is_defined_at, function_is_taken, declared_function, declared_by, declared, all_declared, no_function, defined_by, defined, headed, external, externals}
+use Rattle.c_typing.specs.Units.{CFile, CDefinitions, with_definition, definitions, object_is_taken, is_defined_at, function_is_taken, declared_function, declared_by, declared, all_declared, no_function, defined_by, defined, headed, external, externals}
 use Rattle.c_places.specs.InRange.{InitDeclaratorInRange, InitializerInRange, HeadInRange, ExternalInRange, BlockInRange, DeclaratorInRange, OfEach}
 use Rattle.c_typing.proofs.Steps.{passes, bound, same_ok, All-slice_get}
 use Rattle.c_typing.proofs.Growth.{within_same, based_grows, based_type}
@@ -27,7 +27,7 @@ use Rattle.c_typing.proofs.StructDefinitions.{struct_defines}
 use Rattle.c_typing.proofs.Files.{function_names, IsKnown, IsFile, Advances, advances_then, grown_advances, definition_advances}
 use Rattle.c_typing.proofs.Numbering.{numbered, function_numbered, next_number, more_definitions}
 use Rattle.c_typing.proofs.GlobalObjects.{Laws, object_advances}
-use Rattle.c_typing.proofs.Functions.{declaration_advances, body_advances}
+use Rattle.c_typing.proofs.DefinedFunctions.{declaration_advances, body_advances}
 
 -- the type that a declaration begins with
 record IsHead (numbers : CDefinitions) (f : CFile) (r : CType × CScene) : Type 0 where

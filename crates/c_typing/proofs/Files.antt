@@ -8,7 +8,7 @@ use Rattle.c_typed.specs.TypedRules.{Prototype, prototype_of}
 use Rattle.c_typed.specs.Typed.{IsGlobalObject, IsFunction, IsString}
 use Rattle.c_types.specs.Names.{found}
 use Rattle.c_types.specs.Scene.{CScene, CEntry, CDeclared}
-use Rattle.c_types.specs.Units.{CFile, CDefinitions, number_or_zero, is_main}
+use Rattle.c_typing.specs.Units.{CFile, CDefinitions, number_or_zero, is_main}
 use Rattle.c_typing.proofs.Steps.{front_kept}
 use Rattle.c_typing.proofs.Scenes.{AreStructs, IsFront, Extends, Grows, GrowsWithin, IsEntry, IsDeclared, IsDraft, Formed, StandsAs, prototype_by}
 use Rattle.c_typing.proofs.Later.{tags_extend, extends_then}

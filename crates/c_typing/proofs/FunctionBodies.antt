@@ -11,7 +11,7 @@ use Rattle.c_types.specs.Scene.{CScene, CDraft}
 use Rattle.c_types.specs.Parts.{CParam}
 use Rattle.c_types.specs.Declarators.{name_or_none}
 use Rattle.c_types.specs.Statements.{with_local}
-use Rattle.c_types.specs.Units.{takes_struct, param_types, with_params, begun, ended, finished}
+use Rattle.c_typing.specs.Units.{takes_struct, param_types, with_params, begun, ended, finished}
 use Rattle.c_typing.proofs.Steps.{All-slice_get}
 use Rattle.c_typing.proofs.Accepted.{or_left, or_right}
 use Rattle.c_typing.proofs.Scenes.{draft_types, Extends, IsDraft, IsNamed, Formed}

@@ -10,7 +10,7 @@ use Rattle.c_rules.specs.Rule.{Rule}
 use Rattle.c_types.specs.Names.{found}
 use Rattle.c_types.specs.Parts.{CParam, CPart, is_incomplete, has_function, lacks_size, made}
 use Rattle.c_types.specs.Declarators.{has_many_params}
-use Rattle.c_types.specs.Units.{CFile, is_main, gives_aggregate, takes_struct, param_types, is_again, has_none, breaks_main, unnamed, named_unless, function_type}
+use Rattle.c_typing.specs.Units.{CFile, is_main, gives_aggregate, takes_struct, param_types, is_again, has_none, breaks_main, unnamed, named_unless, function_type}
 use Rattle.c_typing.proofs.Steps.{passes, not_false}
 use Rattle.c_typing.proofs.Accepted.{or_left, or_right}
 use Rattle.c_typing.proofs.MadeTypes.{AreParts, made_is, result_is}

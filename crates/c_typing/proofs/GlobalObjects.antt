@@ -19,7 +19,7 @@ use Rattle.c_types.specs.Scene.{CScene, CEntry, CDeclared}
 use Rattle.c_types.specs.Parts.{CPart, is_incomplete, has_function, lacks_size}
 use Rattle.c_types.specs.Declarators.{has_many_params, completed}
 use Rattle.c_types.specs.Initializers.{initialized, initial_bytes}
-use Rattle.c_types.specs.Units.{CFile, CDefinitions, object_is_taken, is_main, file_type, with_object, initialized_global, declared_object}
+use Rattle.c_typing.specs.Units.{CFile, CDefinitions, object_is_taken, is_main, file_type, with_object, initialized_global, declared_object}
 use Rattle.c_places.specs.InRange.{InitializerInRange}
 use Rattle.c_typing.proofs.Steps.{passes, bound, same_ok, front_kept, at_end}
 use Rattle.c_typing.proofs.Scenes.{at_structs, Extends, GrowsWithin, IsEntry, Formed, StandsAs, Fits, draft_types}

@@ -10,7 +10,7 @@ use Rattle.c_typed.specs.TypedRules.{IsResult}
 use Rattle.c_rules.specs.declared.error.TypeError.TheVariants.{BadType}
 use Rattle.c_types.specs.Parts.{CParam, CPart, is_array_part, begins_with_array, is_incomplete, has_function, lacks_size, array_of, made_by, made, formed}
 use Rattle.c_types.specs.Declarators.{adjusted, parameter_type, object_type}
-use Rattle.c_types.specs.Units.{gives_aggregate}
+use Rattle.c_typing.specs.Units.{gives_aggregate}
 use Rattle.c_typing.proofs.Steps.{passes, bound, same_ok}
 use Rattle.c_typing.proofs.Accepted.{and_not}
 

@@ -7,7 +7,7 @@ use Rattle.c_tree.specs.Syntax.{DeclaratorTree, BlockTree, HeadTree, ExternalTre
 use Rattle.c_typed.specs.TypedTree.{CFunction}
 use Rattle.c_types.specs.Names.{found}
 use Rattle.c_types.specs.Declarators.{declared_name}
-use Rattle.c_types.specs.Units.{CDefinitions, with_definition, definitions}
+use Rattle.c_typing.specs.Units.{CDefinitions, with_definition, definitions}
 use Rattle.c_typing.proofs.FoundNames.{same_name, found_front, found_last}
 use Rattle.c_typing.proofs.Files.{function_names}
 

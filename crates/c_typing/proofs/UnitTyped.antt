@@ -7,8 +7,8 @@ use Rattle.c_typed.specs.Typed.{IsStruct, IsGlobalObject, IsFunction, IsString, 
 use Rattle.c_rules.specs.Rule.{Rule}
 use Rattle.c_types.specs.Names.{found}
 use Rattle.c_types.specs.Scene.{CEntry, CDeclared}
-use Rattle.c_types.specs.Units.{CFile, CDefinitions, is_main, definitions, externals, undefined, all_defined, main_or_none, empty_file, finished_file}
-use Rattle.c_typing.specs.Laws.{TypedUnitIsTyped}
+use Rattle.c_typing.specs.Units.{CFile, CDefinitions, is_main, definitions, externals, undefined, all_defined, main_or_none, empty_file, finished_file}
+use Rattle.c_typing.specs.Laws.{FilesAreTyped}
 use Rattle.c_typing.proofs.Steps.{bound, same_ok, All-slice_get}
 use Rattle.c_typing.proofs.Scenes.{IsEntry, IsDeclared, IsDraft, IsNamed, Formed, StandsAs}
 use Rattle.c_typing.proofs.Later.{extends_same}
@@ -130,8 +130,8 @@ module _ (numbers : CDefinitions) (f : CFile) (main : ℕ) (read : IsRead number
     main = main_is;
   }
 
-pub typed_unit_is_typed : Laws → TypedUnitIsTyped
-typed_unit_is_typed laws u p range h =
+pub files_are_typed : Laws → FilesAreTyped
+files_are_typed laws u p range h =
     let numbers = definitions [] u.externals in
     let f = bound (externals numbers empty_file u.externals) (λ f. finished_file numbers f) p h in
     let read = externals_advance laws numbers empty_file u.externals f.0 (empty_is_file numbers) range.1 refl f.1 in

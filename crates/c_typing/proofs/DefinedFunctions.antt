@@ -17,7 +17,7 @@ use Rattle.c_types.specs.Scene.{CScene, CDeclared}
 use Rattle.c_types.specs.Parts.{CParam, CPart}
 use Rattle.c_types.specs.Expressions.{in_library}
 use Rattle.c_types.specs.Statements.{CAround, block}
-use Rattle.c_types.specs.Units.{CFile, CDefinitions, number_or_zero, function_is_taken, function_type, param_types, with_function, begun, ended, finished, declared_function, defined_function}
+use Rattle.c_typing.specs.Units.{CFile, CDefinitions, number_or_zero, function_is_taken, function_type, param_types, with_function, begun, ended, finished, declared_function, defined_function}
 use Rattle.c_places.specs.InRange.{BlockInRange}
 use Rattle.c_typing.proofs.Steps.{passes, bound, same_ok, All-slice_get, front_kept, at_end}
 use Rattle.c_typing.proofs.Scenes.{Formed, Fits, Extends, prototype_by}
