@@ -29,8 +29,8 @@ pub record IsSame (d e : CDeclared) : Type 0 where
   pub defined : d.is_defined ≡ true → e.is_defined ≡ true
 
 -- each function of one list is in the other
-pub record AreSame (old new : List CDeclared) : Type 0 where
-  pub later : (k : ℕ) (d : CDeclared) → slice_get old k ≡ Some d → (e : CDeclared) × (slice_get new k ≡ Some e) × IsSame d e
+record AreSame (old new : List CDeclared) : Type 0 where
+  later : (k : ℕ) (d : CDeclared) → slice_get old k ≡ Some d → (e : CDeclared) × (slice_get new k ≡ Some e) × IsSame d e
 
 pub same_prototype : (d e : CDeclared) → IsSame d e → prototype_by e ≡ prototype_by d
 same_prototype d e is = ap (λ r. record { result = r; params = e.params }) is.result ∙ ap (λ ps. record { result = d.result; params = ps }) is.params
@@ -38,7 +38,7 @@ same_prototype d e is = ap (λ r. record { result = r; params = e.params }) is.r
 same_self : (d : CDeclared) → IsSame d d
 same_self d = record { name = refl; number = refl; result = refl; params = refl; defined = λ h. h }
 
-pub there_still : (globals : List CGlobal) (old new : List CDeclared) (e : List ℕ × CEntry) → AreSame old new → IsThere globals old e → IsThere globals new e
+there_still : (globals : List CGlobal) (old new : List CDeclared) (e : List ℕ × CEntry) → AreSame old new → IsThere globals old e → IsThere globals new e
 there_still globals old new (x, CEntry.Object n t) same is = is
 there_still globals old new (x, CEntry.Function k) same is =
     let later = same.later k is.declared is.there in

@@ -1,5 +1,5 @@
 -- What names stand for in tables that grow at their end.
-use Rattle.std.proofs.Common.{◌≡◌, ℕ, zero, suc, Bool, true, false, cond, nat_eq, List, [], ◌∷◌, ◌++◌, refl, sym, ◌∙◌, ap}
+use Rattle.std.proofs.Common.{◌≡◌, ℕ, suc, Bool, true, false, cond, nat_eq, List, [], ◌∷◌, ◌++◌, refl, sym, ◌∙◌, ap}
 use Rattle.std.specs.Prelude.{Option, Some, None, slice_get}
 use Rattle.std.specs.Cmp.Lexicographic.{pointwise, bytes_decides}
 use Rattle.c_types.specs.Names.{found}
@@ -42,24 +42,3 @@ module _ {A : Type 0} where
           key None = None
           key (Some b) = Some (x, b)
       by false test o h rest = let there = rest h in (suc there.0, there.1)
-
-  -- an entry of the name is found, if only by another
-  pub found_some : (x : List ℕ) (es : List (List ℕ × A)) (i : ℕ) (a : A) → slice_get es i ≡ Some (x, a) → found x es ≡ None → ⊥
-  found_some x [] i a there h = cc
-  found_some x (e ∷ es) zero a there h = absurd (by (pointwise nat_eq x e.0) test (found x es) h)
-    where
-      key : Option (List ℕ × A) → List ℕ
-      key None = x
-      key (Some e) = e.0
-
-      test : pointwise nat_eq x e.0 ≡ true
-      test = ap (λ o. pointwise nat_eq x (key o)) there ∙ name_itself x
-
-      by : (b : Bool) → b ≡ true → (o : Option A) → cond b (Some e.1) o ≡ None → ⊥
-      by true is o h = cc
-      by false is o h = cc
-  found_some x (e ∷ es) (suc i) a there h = by (pointwise nat_eq x e.0) (found x es) h (found_some x es i a there)
-    where
-      by : (b : Bool) (o : Option A) → cond b (Some e.1) o ≡ None → (o ≡ None → ⊥) → ⊥
-      by true o h rest = cc
-      by false o h rest = rest h

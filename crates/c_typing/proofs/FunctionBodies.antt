@@ -1,7 +1,7 @@
 -- The locals of a function, and its prototype.
 use Rattle.std.proofs.Common.{◌≡◌, ℕ, zero, suc, ◌+◌, ◌≤◌, false, ◌||◌, List, [], ◌∷◌, ◌++◌, length, refl, sym, ◌∙◌, ap, subst, arith}
 use Rattle.std.specs.Prelude.{Some, All, map, take, slice_get}
-use Rattle.std.proofs.lemmas.List.{append_assoc, append-nil, map-append, length-map, length-append}
+use Rattle.std.proofs.lemmas.List.{append_assoc, append-nil, map-append, take-map, length-map, length-append}
 use Rattle.std.proofs.lemmas.List.Elements.{All-nil, All-cons, All-head, All-tail}
 use Rattle.c_typed.specs.Types.{CType, is_array, is_struct, IsScalar}
 use Rattle.c_typed.specs.TypedTree.{CStmt, CStruct, CLocal, CFunction, CProgram}
@@ -146,12 +146,7 @@ finished_objects p f structs ls extends all locals k l found =
 
 -- ---- the first of them
 
-pub map_taken : (n : ℕ) (ls : List CLocal) → local_types (take n ls) ≡ take n (local_types ls)
-map_taken zero ls = refl
-map_taken (suc n) [] = refl
-map_taken (suc n) (l ∷ ls) = ap (λ ts. l.ty ∷ ts) (map_taken n ls)
-
-pub taken_front : (ts us : List CType) → take (length ts) (ts ++ us) ≡ ts
+taken_front : (ts us : List CType) → take (length ts) (ts ++ us) ≡ ts
 taken_front [] us = refl
 taken_front (t ∷ ts) us = ap (λ rest. t ∷ rest) (taken_front ts us)
 
@@ -162,7 +157,7 @@ All-types P (l ∷ ls) all = All-cons (λ l. P l.ty) l ls (All-head P l.ty (loca
 -- the first locals of a function are its parameters
 pub taken_params : (structs : List CStruct) (body : CStmt) (ps : List CParam) (ls more : List CDraft) → ls ≡ param_drafts ps ++ more → local_types (take (length ps) (finished structs body 0 ls)) ≡ param_types ps
 taken_params structs body ps ls more is =
-    map_taken (length ps) (finished structs body 0 ls)
+    sym (take-map (λ (l : CLocal). l.ty) (length ps) (finished structs body 0 ls))
     ∙ ap (take (length ps)) (finished_types structs body 0 ls ∙ ap draft_types is ∙ map-append (λ (l : CDraft). l.ty) (param_drafts ps) more ∙ ap (λ ts. ts ++ draft_types more) (drafts_have ps))
     ∙ ap (λ n. take n (param_types ps ++ draft_types more)) (sym (length-map ps (λ (p : CParam). p.ty)))
     ∙ taken_front (param_types ps) (draft_types more)

@@ -22,9 +22,9 @@ use Rattle.c_types.specs.Initializers.{initialized, initial_bytes}
 use Rattle.c_typing.specs.Units.{CFile, CDefinitions, object_is_taken, is_main, file_type, with_object, initialized_global, declared_object}
 use Rattle.c_places.specs.InRange.{InitializerInRange}
 use Rattle.c_typing.proofs.Steps.{passes, bound, same_ok, front_kept, at_end}
-use Rattle.c_typing.proofs.Scenes.{at_structs, Extends, GrowsWithin, IsEntry, Formed, StandsAs, Fits, draft_types}
+use Rattle.c_typing.proofs.Scenes.{at_structs, GrowsWithin, IsEntry, Formed, StandsAs, Fits, draft_types}
 use Rattle.c_typing.proofs.Growth.{within_same}
-use Rattle.c_typing.proofs.Later.{tags_extend, extends_then, type_later, complete_later, size_later}
+use Rattle.c_typing.proofs.Later.{tags_extend, type_later, complete_later, size_later}
 use Rattle.c_typing.proofs.LaterStructs.{formed_on}
 use Rattle.c_typing.proofs.MadeTypes.{AreParts, IsMade, made_is}
 use Rattle.c_typing.proofs.DeclaratorParts.{completed_parts}
@@ -137,9 +137,6 @@ module _ (numbers : CDefinitions) (f : CFile) (x : List ℕ) (t : CType) (is : I
     are_globals = λ p ends. All-cons (IsGlobalObject p) g [] (is_global p ends) (All-nil (IsGlobalObject p));
     are_functions = λ p ends. All-nil (IsDefinition p);
   }
-
-  type_of_global : (p : CProgram) (u : CScene) → GrowsWithin named_scene u → EndsIn p u → Extends f.scene.structs p.structs
-  type_of_global p u grows ends = extends_then f.scene.structs u.structs p.structs (tags_extend f.scene.structs u.structs grows.grows.structs) ends.extends
 
   -- without an initializer all is zero
   zero_advances : (g : CFile) → (let r : Rule CFile = Ok (record f { scene = named_scene; globals = f.globals ++ record { name = x; ty = t; size = size_of f.scene.structs t; initial = [] } ∷ [] }) in r) ≡ Ok g → Advances numbers [] f g

@@ -8,6 +8,7 @@ pub mod LinedExpressions
 pub mod LinedInitials
 pub mod LinedStatements
 pub mod LinedFiles
+pub mod Answered
 pub mod Scenes
 pub mod Steps
 pub mod Growth

@@ -1,3 +1,4 @@
 pub mod Units
 pub mod UnitSteps
 pub mod Examples
+pub mod Laws

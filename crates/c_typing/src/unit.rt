@@ -1,8 +1,10 @@
 //! The typing of a file (C11 6.9), and what is asked after its text.
-ghost use Rattle.std.specs.Prelude.{◌≡◌, map, Ok};
+ghost use Rattle.std.specs.Prelude.{◌≡◌, map, IfOk, Ok};
 ghost use Rattle.c_tree.specs.SyntaxViews.{head_tree, external_tree, unit_tree};
 ghost use Rattle.c_typed.specs.TypesViewed.{ty_of};
+ghost use Rattle.c_typed.specs.Typed.{Typed, HasLines};
 ghost use Rattle.c_typed.specs.TypedViews.{program_of};
+ghost use Rattle.c_places.specs.InRange.{InRange};
 ghost use Rattle.c_rules.specs.Rule.{Gives, Runs};
 ghost use Rattle.c_types.specs.Names.{option_at};
 ghost use Rattle.c_types.specs.Scene.{scene_of, declared_of};
@@ -12,6 +14,7 @@ ghost use Rattle.c_typing.specs.UnitSteps as steps;
 
 use crate::bodies::defined;
 use crate::declarations::all_declared;
+use crate::laws::{files_are_typed, files_have_lines};
 use crate::file::{File, definitions, empty_file};
 use c_types::calls::copied;
 use c_types::expression::based;
@@ -144,12 +147,25 @@ fn finished_file(alloc: Global, numbers: &Table<u32>, file: File) -> Result<Prog
     }
 }
 
-/// The typed program of a file (C11 6.5 to 6.9), or the refusal that comes first in its text.
-pub fn type_unit(alloc: Global, unit: &Unit) -> Result<Program, TypeError>
+/// The typed program of a file, or the refusal that comes first in its text.
+fn program_or_refusal(alloc: Global, unit: &Unit) -> Result<Program, TypeError>
     ensures { Gives program_of result (spec.typed_unit (unit_tree unit.now)) }
 {
     let numbers = definitions(alloc, unit.externals.as_slice())?;
     let mut file = empty_file(alloc);
     externals(alloc, &mut file, &numbers, unit.externals.as_slice())?;
     finished_file(alloc, &numbers, file)
+}
+
+/// The typed program of a file (C11 6.5 to 6.9), or the refusal that comes first in its text.
+///
+/// The program of a file that was read from a text keeps every rule of typing, and its lines are those of the text.
+pub fn type_unit(alloc: Global, unit: &Unit) -> Result<Program, TypeError>
+    ensures exact { Gives program_of result (spec.typed_unit (unit_tree unit.now)) }
+    ensures typed { InRange (unit_tree unit.now) → IfOk result (λ p. Typed (program_of p)) }
+    ensures lines { InRange (unit_tree unit.now) → IfOk result (λ p. HasLines (program_of p)) }
+{
+    files_are_typed();
+    files_have_lines();
+    program_or_refusal(alloc, unit)
 }
