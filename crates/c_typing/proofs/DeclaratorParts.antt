@@ -1,6 +1,7 @@
 -- The steps of declarators: the scene that they leave, and what their parts are.
 use Rattle.std.proofs.Common.{◌≡◌, ℕ, false, List, [], ◌∷◌, ◌++◌, length, refl, sym, ◌∙◌, ap, subst, arith}
 use Rattle.std.specs.Prelude.{Option, Some, None, Ok, IfSome}
+use Rattle.std.specs.List.{AllByRecursion}
 use Rattle.c_words.specs.declared.place.At.{At}
 use Rattle.c_tree.specs.declared.syntax.specifiers.Specifier.{Specifier as SpecifierTree}
 use Rattle.c_tree.specs.declared.syntax.specifiers.Specifier.TheVariants as words
@@ -14,7 +15,7 @@ use Rattle.c_types.specs.Scene.{CScene, CLocalName}
 use Rattle.c_types.specs.Parts.{CParam, CPart}
 use Rattle.c_types.specs.Expressions.{based, counted, pointed, typed, aside}
 use Rattle.c_types.specs.Declarators.{CScopes, outer, opened, closed, named, array_step, array_steps, parameter_steps, parameter_name, parameter_type, name_is_taken, name_or_none, with_parameter, parameter, parameters, parameters_of, suffix_step, suffix_steps, declarator_steps, given_count, unsized_or, completed}
-use Rattle.c_places.specs.InRange.{ArrayInRange, ParameterDeclaratorInRange, ParameterInRange, ParametersInRange, SuffixInRange, DeclaratorInRange, InitializerInRange, OfEach, ExpressionInRange}
+use Rattle.c_places.specs.InRange.{ArrayInRange, ParameterDeclaratorInRange, ParameterInRange, ParametersInRange, SuffixInRange, DeclaratorInRange, InitializerInRange, ExpressionInRange}
 use Rattle.c_typing.proofs.Steps.{passes, bound, same_ok}
 use Rattle.c_typing.proofs.Scenes.{AreNumbered, Grows, GrowsWithin}
 use Rattle.c_typing.proofs.Growth.{within_same, within_then, grows_same, grows_then, based_grows, based_type}
@@ -64,7 +65,7 @@ size_parts ps s at (Some e) range r h =
 array_parts : (ps : List CPart) (s : CScene) (a : ArrayTree) → ArrayInRange a → (r : List CPart × CScene) → array_step ps s a ≡ Ok r → HasParts s ps r
 array_parts ps s a range r h = size_parts ps s a.at a.size range.1 r h
 
-arrays_parts : (ps : List CPart) (s : CScene) (arrays : List ArrayTree) → OfEach ArrayInRange arrays → (r : List CPart × CScene) → array_steps ps s arrays ≡ Ok r → HasParts s ps r
+arrays_parts : (ps : List CPart) (s : CScene) (arrays : List ArrayTree) → AllByRecursion ArrayInRange arrays → (r : List CPart × CScene) → array_steps ps s arrays ≡ Ok r → HasParts s ps r
 arrays_parts ps s [] range r h = ended s ps _ r (no_parts s ps) h
 arrays_parts ps s (a ∷ more) range r h =
     let x = bound (array_step ps s a) _ r h in
@@ -159,7 +160,7 @@ one_parameter params s p range r h =
           (record { type = is.type; complete = is.complete; no_array = is.no_array }, tt));
     })
 
-more_parameters : (params : List CParam) (s : CScene) (ps : List ParameterTree) → OfEach ParameterInRange ps → (r : List CParam × CScene) → parameters params s ps ≡ Ok r → HasParams s params r
+more_parameters : (params : List CParam) (s : CScene) (ps : List ParameterTree) → AllByRecursion ParameterInRange ps → (r : List CParam × CScene) → parameters params s ps ≡ Ok r → HasParams s params r
 more_parameters params s [] range r h = subst (HasParams s params) (same_ok (params, s) r h) (record { grows = inside_same s; all = λ numbered are. are })
 more_parameters params s (p ∷ ps) range r h =
     let x = bound (parameter params s p) _ r h in
@@ -197,7 +198,7 @@ suffix_parts ps s (SuffixTree.Function at params) range r h =
     let has = list_parameters s params range.1 x.0 x.1 in
     ended s ps _ r (one_part s x.0.1 ps (CPart.Function x.0.0) has.0 has.1) x.2
 
-suffixes_parts : (ps : List CPart) (s : CScene) (xs : List SuffixTree) → OfEach SuffixInRange xs → (r : List CPart × CScene) → suffix_steps ps s xs ≡ Ok r → HasParts s ps r
+suffixes_parts : (ps : List CPart) (s : CScene) (xs : List SuffixTree) → AllByRecursion SuffixInRange xs → (r : List CPart × CScene) → suffix_steps ps s xs ≡ Ok r → HasParts s ps r
 suffixes_parts ps s [] range r h = ended s ps _ r (no_parts s ps) h
 suffixes_parts ps s (x ∷ xs) range r h =
     let y = bound (suffix_step ps s x) _ r h in

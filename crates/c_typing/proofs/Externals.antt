@@ -2,6 +2,7 @@
 use Rattle.std.proofs.Common.{◌≡◌, ℕ, true, false, List, [], ◌∷◌, ◌++◌, length, refl, sym, ◌∙◌, ap, subst, arith, append-nil}
 use Rattle.std.proofs.lemmas.List.{map-append}
 use Rattle.std.specs.Prelude.{Option, Some, None, Ok, Err, IfSome, is_some}
+use Rattle.std.specs.List.{AllByRecursion}
 use Rattle.c_words.specs.declared.place.At.{At}
 use Rattle.c_tree.specs.Syntax.{DeclaratorTree, InitializerTree, InitDeclaratorTree, BlockTree, HeadTree, ExternalTree}
 use Rattle.c_tree.specs.GrammarDeclarations.{declarator_at}
@@ -17,7 +18,7 @@ use Rattle.c_types.specs.Expressions.{based, in_library}
 use Rattle.c_types.specs.Declarators.{declarator_steps, declared_name, has_many_params}
 use Rattle.c_types.specs.Structs.{struct_defined}
 use Rattle.c_typing.specs.Units.{CFile, CDefinitions, with_definition, definitions, object_is_taken, is_defined_at, function_is_taken, declared_function, declared_by, declared, all_declared, no_function, defined_by, defined, headed, external, externals}
-use Rattle.c_places.specs.InRange.{InitDeclaratorInRange, InitializerInRange, HeadInRange, ExternalInRange, BlockInRange, DeclaratorInRange, OfEach}
+use Rattle.c_places.specs.InRange.{InitDeclaratorInRange, InitializerInRange, HeadInRange, ExternalInRange, BlockInRange, DeclaratorInRange}
 use Rattle.c_typing.proofs.Steps.{passes, bound, same_ok, All-slice_get}
 use Rattle.c_typing.proofs.Growth.{within_same, based_grows, based_type}
 use Rattle.c_typing.proofs.Later.{type_later}
@@ -75,7 +76,7 @@ module _ (laws : Laws) (numbers : CDefinitions) where
       (by_parts middle (declarator_at d.declarator) (declared_name d.declarator) base d.initializer ps.0.0 g first.is_file (type_later f.scene.structs ps.0.1.structs first.extends base base_is) no_array
       (has.parts is.scene.tags tt) range.2 ps.2)
 
-  declarators_advance : (f : CFile) (base : CType) (ds : List InitDeclaratorTree) (g : CFile) → IsFile numbers f → IsType f.scene.structs base → is_array base ≡ false → OfEach InitDeclaratorInRange ds
+  declarators_advance : (f : CFile) (base : CType) (ds : List InitDeclaratorTree) (g : CFile) → IsFile numbers f → IsType f.scene.structs base → is_array base ≡ false → AllByRecursion InitDeclaratorInRange ds
       → all_declared numbers f base ds ≡ Ok g → Advances numbers [] f g
   declarators_advance f base [] g is base_is no_array range h = subst (Advances numbers [] f) (same_ok f g h) (grown_advances numbers f f.scene is (within_same f.scene))
   declarators_advance f base (d ∷ ds) g is base_is no_array range h =
@@ -192,7 +193,7 @@ module _ (laws : Laws) (numbers : CDefinitions) where
       let all = advances_then numbers [] (declared_name d ∷ []) f middle g first.advances rest.advances in
       record { names = declared_name d ∷ []; advances = all; numbers_go_on = λ es. ap (λ names. definitions names es) (more_numbers f g (declared_name d) all rest.is_new) }
 
-  pub externals_advance : (f : CFile) (es : List ExternalTree) (g : CFile) → IsFile numbers f → OfEach ExternalInRange es → numbers ≡ definitions (numbered f.functions) es → externals numbers f es ≡ Ok g → IsRead numbers f g
+  pub externals_advance : (f : CFile) (es : List ExternalTree) (g : CFile) → IsFile numbers f → AllByRecursion ExternalInRange es → numbers ≡ definitions (numbered f.functions) es → externals numbers f es ≡ Ok g → IsRead numbers f g
   externals_advance f [] g is range numbers_are h =
       subst (IsRead numbers f) (same_ok f g h) (record { names = []; advances = grown_advances numbers f f.scene is (within_same f.scene); numbers_are = numbers_are })
   externals_advance f (e ∷ es) g is range numbers_are h =

@@ -1,6 +1,7 @@
 -- What an expression makes of a scene.
 use Rattle.std.proofs.Common.{◌≡◌, ℕ, ◌+◌, ◌<◌, ◌≤◌, Bool, true, List, [], ◌∷◌, ◌++◌, length, refl, sym, ◌∙◌, ap, subst, arith}
 use Rattle.std.specs.Prelude.{Ok, Option, Some, None, slice_get, slice_set}
+use Rattle.std.specs.List.{AllByRecursion}
 use Rattle.std.proofs.lemmas.List.{append_assoc, append-nil, length-append}
 use Rattle.std.proofs.lemmas.List.Elements.{All-nil, All-append, All-push, All-weaker, All-cons}
 use Rattle.c_words.specs.declared.place.At.{At}
@@ -16,7 +17,7 @@ use Rattle.c_types.specs.declared.calls.Callee.TheVariants as callee
 use Rattle.c_types.specs.Names.{found}
 use Rattle.c_types.specs.Scene.{CScene, CDeclared}
 use Rattle.c_types.specs.Expressions.{called_first, called_if_named, function_called, joined, text, tagged_by, tagged, based, aside, back, counted_by}
-use Rattle.c_places.specs.InRange.{OfEach, AreBytes}
+use Rattle.c_places.specs.InRange.{AreBytes}
 use Rattle.c_typing.proofs.Scenes.{IsTag, HasMoreTags, AreNumbered, AreCalled, HasMoreTexts, Grows, GrowsWithin}
 use Rattle.c_typing.proofs.Steps.{passes, bound, same_ok, not_less, All-found, flag_kept, set_length}
 
@@ -134,7 +135,7 @@ based_type s (words.Struct at x) h = tag_within s x (found x s.tags) refl h
 
 -- strings
 
-pub joined_bytes : (pieces : List (List ℕ)) → OfEach AreBytes pieces → IsBytes (joined pieces)
+pub joined_bytes : (pieces : List (List ℕ)) → AllByRecursion AreBytes pieces → IsBytes (joined pieces)
 joined_bytes [] h = All-nil (λ b. b < 256)
 joined_bytes (piece ∷ pieces) h = All-append (λ b. b < 256) piece (joined pieces) h.0 (joined_bytes pieces h.1)
 

@@ -1,6 +1,7 @@
 -- The declarations of a block.
 use Rattle.std.proofs.Common.{◌≡◌, ℕ, false, List, [], ◌∷◌, ◌++◌, length, refl}
 use Rattle.std.specs.Prelude.{Ok, Option, Some, None, IfSome, slice_get}
+use Rattle.std.specs.List.{AllByRecursion}
 use Rattle.c_words.specs.declared.place.At.{At}
 use Rattle.c_tree.specs.Syntax.{InitializerTree, InitDeclaratorTree, DeclarationTree}
 use Rattle.c_tree.specs.GrammarDeclarations.{declarator_at}
@@ -14,7 +15,7 @@ use Rattle.c_types.specs.Expressions.{based}
 use Rattle.c_types.specs.Declarators.{declarator_steps, declared_name, completed, object_type}
 use Rattle.c_types.specs.Initializers.{initialized}
 use Rattle.c_types.specs.Statements.{with_local, initialized_local, local, locals, declaration}
-use Rattle.c_places.specs.InRange.{OfEach, InitializerInRange, InitDeclaratorInRange, DeclarationInRange}
+use Rattle.c_places.specs.InRange.{InitializerInRange, InitDeclaratorInRange, DeclarationInRange}
 use Rattle.c_typing.proofs.Scenes.{at_structs, AreNumbered, IsDraft, draft_types, Formed}
 use Rattle.c_typing.proofs.Steps.{passes, bound}
 use Rattle.c_typing.proofs.Growth.{based_grows, based_type}
@@ -69,7 +70,7 @@ module _ (sound : OperatorsAreSound) (names : Environment) where
       let holds = initialized_local_is w at (length ps.0.1.locals) t.0 d.at d.initializer range.2 (local_at ps.0.1 x t.0) (local_type ps.0.1 x t.0) r t.2 in
       record { goes = goes_then s w r.1 goes holds.goes; is = λ formed fits. holds.is (goes.formed formed) fits }
 
-  locals_are : (done : List CDeclaration) (s : CScene) (base : CType) (ds : List InitDeclaratorTree) → OfEach InitDeclaratorInRange ds → IsType s.structs base
+  locals_are : (done : List CDeclaration) (s : CScene) (base : CType) (ds : List InitDeclaratorTree) → AllByRecursion InitDeclaratorInRange ds → IsType s.structs base
       → (r : List CDeclaration × CScene) → locals done s base ds ≡ Ok r → HoldsBehind names AreDeclarations s done r
   locals_are done s base [] range type r h = behind_end names AreDeclarations s s done done r h (behind_same names AreDeclarations s done)
   locals_are done s base (d ∷ ds) range type r h =

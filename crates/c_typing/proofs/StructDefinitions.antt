@@ -1,6 +1,7 @@
 -- The definition of a struct: the structs keep their layouts and their ranks.
 use Rattle.std.proofs.Common.{◌≡◌, ℕ, ◌<◌, ◌≤◌, false, nat_lt, List, [], ◌∷◌, length, refl, sym, ◌∙◌, ap, subst, arith}
 use Rattle.std.specs.Prelude.{Ok, All, slice_get, slice_set}
+use Rattle.std.specs.List.{AllByRecursion}
 use Rattle.std.proofs.lemmas.List.Elements.{All-nil, All-push, All-weaker}
 use Rattle.std.proofs.lemmas.Option.{slice_get-get_or}
 use Rattle.c_tree.specs.declared.syntax.specifiers.Specifier.TheVariants as words
@@ -16,7 +17,7 @@ use Rattle.c_types.specs.Scene.{CScene, CDraft}
 use Rattle.c_types.specs.Expressions.{based, tagged}
 use Rattle.c_types.specs.Declarators.{declarator_steps, declared_name, object_type}
 use Rattle.c_types.specs.Structs.{is_member, member, members, member_lists, laid_out, defined, struct_defined}
-use Rattle.c_places.specs.InRange.{DeclaratorInRange, MemberInRange, StructInRange, OfEach}
+use Rattle.c_places.specs.InRange.{DeclaratorInRange, MemberInRange, StructInRange}
 use Rattle.c_typing.proofs.Steps.{passes, bound, same_ok, not_less, front_kept}
 use Rattle.c_typing.proofs.Scenes.{AreStructs, AreNumbered, Extends, HasMoreTags, GrowsWithin, IsDraft}
 use Rattle.c_typing.proofs.Growth.{within_same, within_then, tagged_grows, based_grows, based_type}
@@ -58,7 +59,7 @@ one_member ms s base d range numbered base_is are r h =
           (record { type = is.type; complete = is.complete refl });
     })
 
-more_members : (ms : List CDraft) (s : CScene) (base : CType) (ds : List DeclaratorTree) → OfEach DeclaratorInRange ds → AreNumbered s.structs s.tags → IsType s.structs base → All (IsDraft s.structs) ms
+more_members : (ms : List CDraft) (s : CScene) (base : CType) (ds : List DeclaratorTree) → AllByRecursion DeclaratorInRange ds → AreNumbered s.structs s.tags → IsType s.structs base → All (IsDraft s.structs) ms
     → (r : List CDraft × CScene) → members ms s base ds ≡ Ok r → HasMembers s r
 more_members ms s base [] range numbered base_is are r h = same_members s ms r are h
 more_members ms s base (d ∷ ds) range numbered base_is are r h =
@@ -67,7 +68,7 @@ more_members ms s base (d ∷ ds) range numbered base_is are r h =
     members_then s x.0.1 r first.grows
     (more_members x.0.0 x.0.1 base ds range.1 (first.grows.grows.tags numbered) (type_later s.structs x.0.1.structs (extends s x.0.1 first.grows) base base_is) first.all r x.2)
 
-lists_members : (ms : List CDraft) (s : CScene) (ds : List MemberDeclarationTree) → OfEach MemberInRange ds → AreNumbered s.structs s.tags → All (IsDraft s.structs) ms
+lists_members : (ms : List CDraft) (s : CScene) (ds : List MemberDeclarationTree) → AllByRecursion MemberInRange ds → AreNumbered s.structs s.tags → All (IsDraft s.structs) ms
     → (r : List CDraft × CScene) → member_lists ms s ds ≡ Ok r → HasMembers s r
 lists_members ms s [] range numbered are r h = same_members s ms r are h
 lists_members ms s (d ∷ ds) range numbered are r h =
