@@ -86,23 +86,23 @@ parse_line (parse.Syntax token line) = (codes "baggy: refused Syntax token " ++ 
 parse_line (parse.TooDeep token line) = (codes "baggy: refused TooDeep token " ++ decimal token) ++ numbered (codes " at line ") line
 parse_line parse.Memory = []
 
--- a text, a name and a line
-abbrev pub named : List ℕ → List ℕ → ℕ → List ℕ
-named text name line = (text ++ name) ++ numbered (codes " at line ") line
+-- a text, a name or a number, and a second text with a number
+abbrev pub named : List ℕ → List ℕ → List ℕ → ℕ → List ℕ
+named text name second n = (text ++ name) ++ numbered second n
 
 abbrev pub typing_line : TypeError → List ℕ
-typing_line (typing.Unknown line name) = named (codes "baggy: refused Unknown ") name line
-typing_line (typing.Twice line name) = named (codes "baggy: refused Twice ") name line
-typing_line (typing.BadType line rule) = (codes "baggy: refused BadType rule " ++ decimal rule) ++ numbered (codes " at line ") line
+typing_line (typing.Unknown line name) = named (codes "baggy: refused Unknown ") name (codes " at line ") line
+typing_line (typing.Twice line name) = named (codes "baggy: refused Twice ") name (codes " at line ") line
+typing_line (typing.BadType line rule) = named (codes "baggy: refused BadType rule ") (decimal rule) (codes " at line ") line
 typing_line typing.NoMain = codes "baggy: refused NoMain\n"
-typing_line (typing.TooLarge line size) = (codes "baggy: refused TooLarge size " ++ decimal size) ++ numbered (codes " at line ") line
+typing_line (typing.TooLarge line size) = named (codes "baggy: refused TooLarge size ") (decimal size) (codes " at line ") line
 typing_line (typing.TooManyParams line) = numbered (codes "baggy: refused TooManyParams at line ") line
 typing_line (typing.TooManyFunctions line) = numbered (codes "baggy: refused TooManyFunctions at line ") line
 typing_line typing.Memory = []
 
 abbrev pub lower_line : LowerError → List ℕ
 lower_line (lower.TooManyNodes count) = numbered (codes "baggy: refused TooManyNodes count ") count
-lower_line (lower.TooManyValues name count) = (codes "baggy: refused TooManyValues " ++ name) ++ numbered (codes " count ") count
+lower_line (lower.TooManyValues name count) = named (codes "baggy: refused TooManyValues ") name (codes " count ") count
 lower_line lower.NotBuilt = []
 lower_line lower.Memory = []
 

@@ -92,7 +92,7 @@ pub(crate) fn put_numbered<E: Sink>(notes: &mut E, text: &[u8], number: u32) -> 
 pub(crate) fn put_two<E: Sink>(
     notes: &mut E,
     text: &[u8],
-    number: u64,
+    number: u32,
     second: &[u8],
     last: u32,
 ) -> Result<(), SinkFailed>

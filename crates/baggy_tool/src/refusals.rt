@@ -1,5 +1,5 @@
 //! The line that is noted of a refusal.
-ghost use Rattle.std.specs.Prelude.{◌≡◌, ◌++◌};
+ghost use Rattle.std.specs.Prelude.{◌≡◌, codes, decimal};
 ghost use Rattle.bb_outside.specs.Causes.{HasCause};
 ghost use Rattle.baggy_tool.specs.Endings.{refusal_line, compile_line, image_line, lex_line, parse_line, typing_line, lower_line, named};
 ghost use Rattle.baggy_tool.specs.Notes.{Noted};
@@ -11,6 +11,7 @@ use bb_outside::{Sink, SinkFailed};
 use c_lexer::LexError;
 use c_parser::ParseError;
 use c_rules::error::TypeError;
+use itoa::Buffer;
 use lowering::error::LowerError;
 use rv_image::error::ImageError;
 
@@ -73,7 +74,7 @@ fn note_parse_error<E: Sink>(notes: &mut E, error: ParseError) -> Result<(), Sin
             put_two(
                 notes,
                 b"baggy: refused Syntax token ",
-                u64::from(token),
+                token,
                 b" at line ",
                 line,
             )
@@ -82,7 +83,7 @@ fn note_parse_error<E: Sink>(notes: &mut E, error: ParseError) -> Result<(), Sin
             put_two(
                 notes,
                 b"baggy: refused TooDeep token ",
-                u64::from(token),
+                token,
                 b" at line ",
                 line,
             )
@@ -97,26 +98,23 @@ fn note_type_error<E: Sink>(notes: &mut E, error: &TypeError) -> Result<(), Sink
 {
     match error {
         TypeError::Unknown { line, name } => {
-            put_named(notes, b"baggy: refused Unknown ", name.as_slice(), *line)
+            let name = name.as_slice();
+            put_named(notes, b"baggy: refused Unknown ", name, b" at line ", *line)
         }
         TypeError::Twice { line, name } => {
-            put_named(notes, b"baggy: refused Twice ", name.as_slice(), *line)
+            let name = name.as_slice();
+            put_named(notes, b"baggy: refused Twice ", name, b" at line ", *line)
         }
-        TypeError::BadType { line, rule } => put_two(
+        TypeError::BadType { line, rule } => put_at_line(
             notes,
             b"baggy: refused BadType rule ",
             u64::from(*rule),
-            b" at line ",
             *line,
         ),
         TypeError::NoMain => put(notes, b"baggy: refused NoMain\n"),
-        TypeError::TooLarge { line, size } => put_two(
-            notes,
-            b"baggy: refused TooLarge size ",
-            *size,
-            b" at line ",
-            *line,
-        ),
+        TypeError::TooLarge { line, size } => {
+            put_at_line(notes, b"baggy: refused TooLarge size ", *size, *line)
+        }
         TypeError::TooManyParams { line } => {
             put_numbered(notes, b"baggy: refused TooManyParams at line ", *line)
         }
@@ -136,8 +134,8 @@ fn note_lower_error<E: Sink>(notes: &mut E, error: &LowerError) -> Result<(), Si
             put_numbered(notes, b"baggy: refused TooManyNodes count ", *count)
         }
         LowerError::TooManyValues { function, count } => {
-            put_both(notes, b"baggy: refused TooManyValues ", function.as_slice())?;
-            put_numbered(notes, b" count ", *count)
+            let name = function.as_slice();
+            put_named(notes, b"baggy: refused TooManyValues ", name, b" count ", *count)
         }
         LowerError::NotBuilt | LowerError::Memory => Ok(()),
     }
@@ -151,7 +149,7 @@ fn note_image_error<E: Sink>(notes: &mut E, error: ImageError) -> Result<(), Sin
         ImageError::Short { need, have } => put_two(
             notes,
             b"baggy: refused Short need ",
-            u64::from(need),
+            need,
             b" have ",
             have,
         ),
@@ -165,11 +163,32 @@ fn note_image_error<E: Sink>(notes: &mut E, error: ImageError) -> Result<(), Sin
     }
 }
 
-// Writes a text, a name and a line.
-fn put_named<E: Sink>(notes: &mut E, text: &[u8], name: &[u8], line: u32) -> Result<(), SinkFailed>
-    ensures noted { Noted result (named text.now name.now line) (E.written notes.old) (E.written notes.new) }
+// Writes a text and a name, and a second text, a number and a line feed.
+fn put_named<E: Sink>(
+    notes: &mut E,
+    text: &[u8],
+    name: &[u8],
+    second: &[u8],
+    number: u32,
+) -> Result<(), SinkFailed>
+    ensures noted { Noted result (named text.now name.now second.now number) (E.written notes.old) (E.written notes.new) }
     ensures cause { HasCause (E.faults notes.old) (E.faults notes.new) result }
 {
     put_both(notes, text, name)?;
-    put_numbered(notes, b" at line ", line)
+    put_numbered(notes, second, number)
+}
+
+// Writes a text and a number, and a line.
+fn put_at_line<E: Sink>(
+    notes: &mut E,
+    text: &[u8],
+    number: u64,
+    line: u32,
+) -> Result<(), SinkFailed>
+    ensures noted { Noted result (named text.now (decimal number) (codes " at line ") line) (E.written notes.old) (E.written notes.new) }
+    ensures cause { HasCause (E.faults notes.old) (E.faults notes.new) result }
+{
+    let mut buffer = Buffer::new();
+    let number = buffer.format(number).as_bytes();
+    put_named(notes, text, number, b" at line ", line)
 }
