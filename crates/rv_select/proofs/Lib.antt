@@ -4,5 +4,6 @@ pub mod Labels
 pub mod Leading
 pub mod Read
 mod Resolvable
+mod Shaped
 pub mod Sizes
 mod Sound

@@ -7,6 +7,7 @@ use Rattle.flat_verify.specs.Discipline.{IsDisciplined}
 use Rattle.rv_asm.specs.Parts.{long_sizes, times_in, AreParts}
 use Rattle.rv_select.specs.Selection.{functions_labels, selected}
 use Rattle.rv_select.specs.Words.{HasWords}
+use Rattle.rv_select.specs.Shape.{AreShaped}
 
 -- The parts need at most as many bytes as the code weighs, with every branch and jump in its longest form.
 abbrev pub PartsAreLight : Type 0
@@ -27,3 +28,7 @@ abbrev pub PartsAreResolvable : Type 0
 PartsAreResolvable =
     (g : ℕ) (globals : List Block) (code : FCode) → 2 ≤ g → g ≤ 24 → IsDisciplined g globals code → HasWords code → weight g code ≤ 2093056
     → AreParts (selected g code)
+
+-- The parts are shaped, whatever the code is.
+abbrev pub PartsAreShaped : Type 0
+PartsAreShaped = (g : ℕ) (code : FCode) → AreShaped (selected g code)
