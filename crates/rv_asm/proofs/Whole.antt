@@ -1,8 +1,9 @@
 -- Words that parts are resolved to run as the parts do.
-use Rattle.std.proofs.Common.{◌≡◌, ℕ, suc, ◌+◌, ◌*◌, ◌<◌, ◌≤◌, Bool, true, false, List, [], ◌∷◌, ◌++◌, length, refl, sym, ap, subst, inl, inr, ◌∙◌, length-append, arith}
+use Rattle.std.proofs.Common.{◌≡◌, ℕ, suc, ◌+◌, ◌*◌, ◌<◌, ◌≤◌, Bool, true, false, cond, List, [], ◌∷◌, ◌++◌, length, refl, sym, ap, subst, inl, inr, ◌∙◌, length-append, arith}
 use Rattle.std.proofs.lemmas.List.{length-map}
 use Rattle.rv_code.specs.Code.{Fits, word_of}
 use Rattle.rv_code.specs.declared.instr.Instr.{Instr}
+use Rattle.rv_code.specs.declared.instr.Instr.TheVariants.{Jal}
 use Rattle.size_table.specs.Memory.{Stand}
 use Rattle.rv_machine.specs.State.{register_of}
 use Rattle.rv_machine.specs.Environment.{World}
@@ -11,7 +12,7 @@ use Rattle.rv_asm.specs.declared.parts.BranchOp.{BranchOp}
 use Rattle.rv_asm.specs.declared.parts.Part.{Part}
 use Rattle.rv_asm.specs.declared.parts.Part.TheVariants.{Plain, Label, Branch, Jump}
 use Rattle.rv_asm.specs.Parts.{times_in}
-use Rattle.rv_asm.specs.Text.{in_reach, branch_of, inverse, distance, jump_code, branch_code, code_of, words_of, goal_of, place_after, text_of}
+use Rattle.rv_asm.specs.Text.{in_reach, branch_of, inverse, distance, skip_over, long_jump, jump_code, branch_code, code_of, words_of, goal_of, place_after, text_of}
 use Rattle.rv_asm.specs.Runs.{IsAt, Branches, is_taken, PartAt, PartsAt}
 use Rattle.rv_asm.specs.Resolving.{IsPlace}
 use Rattle.rv_asm.proofs.Machine.{Has, is_done}
@@ -37,6 +38,19 @@ stand_both memory at (x ∷ xs) ys h =
     let rest = stand_both memory (at + 4) xs ys h.1 in
     ((h.0, rest.0), subst (λ (n : ℕ). Stand memory n ys) (omega arith) rest.1)
 
+-- ---- Branches and jumps have at least one word
+
+one_of : (test : Bool) (xs ys : List Instr) → 1 ≤ length xs → 1 ≤ length ys → 1 ≤ length (cond test xs ys)
+one_of true xs ys x y = x
+one_of false xs ys x y = y
+
+jump_some : (rd at to : ℕ) → 1 ≤ length (jump_code rd at to)
+jump_some rd at to = one_of (in_reach 1048576 at to) (Jal rd (distance at to) ∷ []) (long_jump rd at to) (omega arith) (omega arith)
+
+branch_some : (op : BranchOp) (rs1 rs2 at to : ℕ) → 1 ≤ length (branch_code op rs1 rs2 at to)
+branch_some op rs1 rs2 at to =
+    one_of (in_reach 4096 at to) (branch_of op rs1 rs2 (distance at to) ∷ []) (branch_of (inverse op) rs1 rs2 (skip_over at to) ∷ jump_code 0 (at + 4) to) (omega arith) (omega arith)
+
 module _ (done : InstructionDone) (text : List ℕ) (all : List Part) (labels : ℕ → ℕ) where
   branch_stands : (op : BranchOp) (rs1 rs2 at to behind : ℕ) (w : World) → IsPlace at → IsPlace to → rs1 < 32 → rs2 < 32 → behind ≡ at + 4 * length (branch_code op rs1 rs2 at to) → behind ≤ 2097152 → Has text at (branch_code op rs1 rs2 at to) → IsAt text at w →
       (near far : Bool) → in_reach 4096 at to ≡ near → in_reach 1048576 (at + 4) to ≡ far → Branches (is_taken op (register_of w.machine.core rs1) (register_of w.machine.core rs2)) w to behind
@@ -59,10 +73,14 @@ module _ (done : InstructionDone) (text : List ℕ) (all : List Part) (labels : 
   unfolding IsSettled
   part_stands (Plain i) at behind s a b high has = (is_done done text at i [] has s a.low (omega (arith, b, high)), b)
   part_stands (Label l) at behind s a b high has = (s, omega (arith, b))
-  part_stands (Branch op rs1 rs2 l) at behind s a b high has = λ w is.
-      branch_stands op rs1 rs2 at (labels l) behind w a s.2 s.0 s.1 b high has is (in_reach 4096 at (labels l)) (in_reach 1048576 (at + 4) (labels l)) refl refl
-  part_stands (Jump rd l) at behind s a b high has = λ w is.
-      jump_takes done text rd at (labels l) behind w a s.1 b high s.0 has is
+  part_stands (Branch op rs1 rs2 l) at behind s a b high has = (
+    λ w is. branch_stands op rs1 rs2 at (labels l) behind w a s.2 s.0 s.1 b high has is (in_reach 4096 at (labels l)) (in_reach 1048576 (at + 4) (labels l)) refl refl,
+    record { words = length (branch_code op rs1 rs2 at (labels l)); some = branch_some op rs1 rs2 at (labels l); is = b },
+  )
+  part_stands (Jump rd l) at behind s a b high has = (
+    λ w is. jump_takes done text rd at (labels l) behind w a s.1 b high s.0 has is,
+    record { words = length (jump_code rd at (labels l)); some = jump_some rd at (labels l); is = b },
+  )
 
   -- parts stand one after another
   pub parts_stand : (parts : List Part) (at behind : ℕ) → AreSettled all labels at parts → IsPlace at → behind ≡ at + 4 * length (text_of labels at parts) → behind ≤ 2097152 → ((memory : List ℕ) → Stand memory 4096 text → Stand memory at (text_of labels at parts)) → PartsAt text all labels at parts behind

@@ -71,16 +71,24 @@ pub record IsDone (text : List ℕ) (place : ℕ) (i : Instr) : Type 0 where
   pub step : (c : Core) → IsCoreAt text place c → core_step c ≡ effect i c
   pub events : (c : Core) → IsCoreAt text place c → core_events c ≡ event_of i c
 
+-- a place is at least one word behind another
+pub record IsBehind (at behind : ℕ) : Type 0 where
+  pub words : ℕ
+  pub some : 1 ≤ words
+  pub is : behind ≡ at + 4 * words
+
 -- The part, one of these parts, stands in the text from one place to another. A label that stands once has its place.
 abbrev pub PartAt : (text : List ℕ) (all : List Part) (labels : ℕ → ℕ) (at : ℕ) (part : Part) (behind : ℕ) → Type 0
 PartAt text all labels at (Plain i) behind = IsDone text at i × (behind ≡ at + 4)
 PartAt text all labels at (Label l) behind = (times_in l all ≡ 1 → labels l ≡ at) × (behind ≡ at)
 PartAt text all labels at (Branch op rs1 rs2 l) behind =
-    (w : World) → IsAt text at w →
-    Branches (is_taken op (register_of w.machine.core rs1) (register_of w.machine.core rs2)) w (labels l) behind
+    ((w : World) → IsAt text at w →
+    Branches (is_taken op (register_of w.machine.core rs1) (register_of w.machine.core rs2)) w (labels l) behind)
+    × IsBehind at behind
 PartAt text all labels at (Jump rd l) behind =
-    (w : World) → IsAt text at w →
-    Takes 2 w (labels l) (calls_if rd behind (labels l)) (set_register rd behind w.machine.core)
+    ((w : World) → IsAt text at w →
+    Takes 2 w (labels l) (calls_if rd behind (labels l)) (set_register rd behind w.machine.core))
+    × IsBehind at behind
 
 -- the parts stand one after another from one place to another
 abbrev pub PartsAt : (text : List ℕ) (all : List Part) (labels : ℕ → ℕ) (at : ℕ) (parts : List Part) (behind : ℕ) → Type 0

@@ -26,7 +26,7 @@ use Rattle.select_runs.specs.Scene.{Scene, IsScene, after, Frame, edge, HasRoom,
 use Rattle.select_runs.proofs.Straight.{same_word}
 use Rattle.select_runs.proofs.Agree.{Laws, spent}
 use Rattle.select_runs.proofs.Reach.{Around, Comes, Ends, ends_from}
-use Rattle.select_runs.proofs.Moves.{place_aligned, apart, cell_is, held, row, stands_at}
+use Rattle.select_runs.proofs.Moves.{place_aligned, behind_jump, apart, cell_is, held, row, stands_at}
 use Rattle.select_runs.proofs.Pieces.{is_set, is_cell, parts_split, changed_here, changed_other}
 use Rattle.select_runs.proofs.Asking.{stores_on}
 use Rattle.select_runs.proofs.Items.{CallsFollow}
@@ -169,7 +169,7 @@ module _ (laws : Laws) (s : Scene) (scene : IsScene s) (f : Frame) (room : HasRo
   calls_it fn function a b args u k few part given small at =
       let v = after s k in
       let c = v.machine.core in
-      let go = part v at.at in
+      let go = part.0 v at.at in
       let d = at_place (s.labels function) (set_register 5 go.scratch (set_register 1 b c)) in
       let event : Event = Call (b - 4) (s.labels function) in
       let count = go.count in
@@ -179,7 +179,7 @@ module _ (laws : Laws) (s : Scene) (scene : IsScene s) (f : Frame) (room : HasRo
       λ r n1 n5. get_or-set_other (set_register 1 b c).registers 5 r go.scratch 0 n5 ∙ get_or-set_other c.registers 1 r b 0 n1 in
       let events : events_of (gone (event ∷ []) d v).told ≡ events_of v.told ++ event ∷ [] = laws.events_append v.told (Happens event ∷ []) in
       let a0 = at.agrees in
-      let four : b - 4 + 4 ≡ b = let x = (scene.behind a b function (place_aligned s scene a k at.at) part).1 in omega (arith, x) in (
+      let four : b - 4 + 4 ≡ b = let x = (behind_jump s a b 1 function (place_aligned s scene a k at.at) part).1 in omega (arith, x) in (
         count,
         go.some,
         go.few,
@@ -277,7 +277,7 @@ module _ (laws : Laws) (s : Scene) (scene : IsScene s) (f : Frame) (room : HasRo
     room = omega (arith, few, room.low);
     high = omega (arith, few, room.low, room.high);
     aligned = omega (arith, few, room.low, room.aligned);
-    back = (scene.behind a b l even part).0;
+    back = (behind_jump s a b 1 l even part).0;
     opened = refl;
   }
 

@@ -16,3 +16,4 @@ pub mod Bodies
 pub mod Followed
 pub mod Calls
 pub mod Whole
+pub mod Images

@@ -58,6 +58,10 @@ one_step w = refl
 pub place_aligned : (s : Scene) → IsScene s → (a k : ℕ) → IsAt s.text a (after s k) → a % 4 ≡ 0
 place_aligned s scene a k at = ap (λ x. x % 4) (sym at.core.here) ∙ scene.aligned k
 
+-- so is the place behind a jump
+pub behind_jump : (s : Scene) (a b rd l : ℕ) → a % 4 ≡ 0 → PartAt s.text s.all s.labels a (Jump rd l) b → (b % 4 ≡ 0) × (4 ≤ b)
+behind_jump s a b rd l even part = (omega (arith, even, part.1.is), omega (arith, part.1.some, part.1.is))
+
 -- ---- Another core with the same frame
 
 -- The frame is held by another core with the same bytes and the same x0 and x2.
@@ -131,13 +135,13 @@ module _ (laws : Laws) (s : Scene) (scene : IsScene s) (f : Frame) (room : HasRo
 
   pub jumps_to : (l a b : ℕ) (known : Option ℕ) (u : FPoint) (k : ℕ) → PartAt s.text s.all s.labels a (Jump 0 l) b → k + 2 ≤ u.world.time
       → At s f a known u k → Moved (s.labels l) u k 2
-  jumps_to l a b known u k part soon at = takes_to 2 a (s.labels l) known u k [] unnoticed_none soon (part (after s k) at.at) at
+  jumps_to l a b known u k part soon at = takes_to 2 a (s.labels l) known u k [] unnoticed_none soon (part.0 (after s k) at.at) at
 
   -- a branch on x5, which holds a value, and x0
   pub branches_to : (op : BranchOp) (l a b v : ℕ) (u : FPoint) (k : ℕ) → PartAt s.text s.all s.labels a (Branch op 5 0 l) b → k + 3 ≤ u.world.time
       → At s f a (Some v) u k → Moved (if is_taken op (u.words v) 0 then s.labels l else b) u k 3
   branches_to op l a b v u k part soon at =
-      by_test (is_taken op (u.words v) 0) (subst (λ t. Branches t (after s k) (s.labels l) b) (ap (λ x. is_taken op x (register_of c 0)) at.frame.stands.five ∙ ap (is_taken op (u.words v)) at.frame.stands.zero) (part (after s k) at.at))
+      by_test (is_taken op (u.words v) 0) (subst (λ t. Branches t (after s k) (s.labels l) b) (ap (λ x. is_taken op x (register_of c 0)) at.frame.stands.five ∙ ap (is_taken op (u.words v)) at.frame.stands.zero) (part.0 (after s k) at.at))
     where
       c : Core
       c = (after s k).machine.core

@@ -172,7 +172,7 @@ module _ (laws : Laws) (s : Scene) (scene : IsScene s) where
 
   pub branches : (op : BranchOp) (rs1 rs2 l a b k : ℕ) → PartAt s.text s.all s.labels a (Branch op rs1 rs2 l) b → IsAt s.text a (after s k)
       → Branched (if is_taken op (register_of (core_at k) rs1) (register_of (core_at k) rs2) then s.labels l else b) k
-  branches op rs1 rs2 l a b k part at = by_test (is_taken op (register_of (core_at k) rs1) (register_of (core_at k) rs2)) (part (after s k) at)
+  branches op rs1 rs2 l a b k part at = by_test (is_taken op (register_of (core_at k) rs1) (register_of (core_at k) rs2)) (part.0 (after s k) at)
     where
       by_test : (t : Bool) → Branches t (after s k) (s.labels l) b → Branched (if t then s.labels l else b) k
       by_test true go = moved go.count (s.labels l) k (at_place (s.labels l) (set_register 5 go.scratch (core_at k))) go.some go.few refl refl

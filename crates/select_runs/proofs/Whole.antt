@@ -34,7 +34,7 @@ use Rattle.select_runs.specs.Fits.{FitsFunction, params_of}
 use Rattle.select_runs.specs.Scene.{Scene, IsScene, StartsAs, after, Frame, edge, held_of, Agrees}
 use Rattle.select_runs.proofs.Agree.{Laws, frame_unnoticed}
 use Rattle.select_runs.proofs.Reach.{Finishes, Ends, control_of}
-use Rattle.select_runs.proofs.Moves.{place_aligned, apart, one_step}
+use Rattle.select_runs.proofs.Moves.{place_aligned, behind_jump, apart, one_step}
 use Rattle.select_runs.proofs.Pieces.{is_set, parts_split}
 use Rattle.select_runs.proofs.Raw.{runs_straight}
 use Rattle.select_runs.proofs.Calling.{IsCalled, returned_to, Answered, CallComes, IsCallee}
@@ -96,7 +96,7 @@ module _ (laws : Laws) (s : Scene) (scene : IsScene s) where
       } in
       let register : (r : ℕ) → r < 32 → register_of c2 r ≡ (does_code h).register r = λ r lt. ap (λ x. register_of x.machine.core r) same ∙ did.holds.registers r lt in
       let bytes : (q : ℕ) → slice_index c2.memory q ≡ slice_index v.machine.core.memory q = λ q. ap (λ x. slice_index x.machine.core.memory q) same ∙ beside v.machine.core did.core did.beside q (cases_lt q GLOBALS_START) in
-      let go = jump v2 at2 in
+      let go = jump.0 v2 at2 in
       let d = at_place (s.labels number) (set_register 5 go.scratch (set_register 1 b c2)) in
       let event : Event = Call (b - 4) (s.labels number) in
       let k = 2 + go.count in
@@ -105,7 +105,7 @@ module _ (laws : Laws) (s : Scene) (scene : IsScene s) where
       let other : (r : ℕ) → r ≢ 1 → r ≢ 5 → register_of d r ≡ register_of c2 r =
       λ r n1 n5. get_or-set_other (set_register 1 b c2).registers 5 r go.scratch 0 n5 ∙ get_or-set_other c2.registers 1 r b 0 n1 in
       let events : events_of (gone (event ∷ []) d v2).told ≡ did.events ++ event ∷ [] = laws.events_append v2.told (Happens event ∷ []) ∙ ap (λ l. l ++ event ∷ []) events2 in
-      let behind = scene.behind a1 b number (place_aligned s scene a1 2 at2) jump in
+      let behind = behind_jump s a1 b 1 number (place_aligned s scene a1 2 at2) jump in
       let four : b - 4 + 4 ≡ b = let x = behind.1 in omega (arith, x) in
       record {
         count = k;
@@ -230,4 +230,4 @@ module _ (laws : Laws) (s : Scene) (scene : IsScene s) where
 -- the law of whole programs
 pub numbers_land : Laws → ((steps : FSteps) → all_steps 4 (items_of 4 steps) ≡ steps) → NumbersLand
 numbers_land laws items_are s code p globals input st m =
-    lands laws s p.scene code globals input p.main p.end m p.parts p.labels p.frames p.fits p.main_is p.no_params items_are st
+    lands laws s p.scene code globals input p.fits.first.main p.end m p.parts p.labels p.frames p.fits.functions p.fits.first.main_is p.fits.first.no_params items_are st

@@ -1,7 +1,7 @@
 -- Flat code of numbers: which steps and items a machine is shown to follow. Numbers are in range: those of values, those of
 -- the constructs around, those of functions.
-use Rattle.std.specs.Prelude.{◌≡◌, ℕ, suc, ◌^◌, ◌<◌, ◌≤◌, List, [], ◌∷◌, length, Option, Some, None}
-use Rattle.flat_code.specs.Code.{FStep, FFunction}
+use Rattle.std.specs.Prelude.{◌≡◌, ℕ, suc, ◌^◌, ◌<◌, ◌≤◌, List, [], ◌∷◌, length, Option, Some, None, slice_get}
+use Rattle.flat_code.specs.Code.{FStep, FFunction, FCode}
 use Rattle.flat_verify.specs.Items.{Item, Items, items_of}
 
 -- each of these is the number of a value
@@ -51,3 +51,18 @@ pub record FitsFunction (params : ℕ → Option ℕ) (number : ℕ) (f : FFunct
   pub small : f.line < 2 ^ 32
   pub number_is : number < 2 ^ 32
   pub items : FitItems f.values params 0 (items_of 4 f.body)
+
+-- each function of the code is one of numbers
+abbrev pub FunctionsFit : FCode → Type 0
+FunctionsFit code = (number : ℕ) (f : FFunction) → slice_get code.functions number ≡ Some f → FitsFunction (λ n. params_of (slice_get code.functions n)) number f
+
+-- The first function that is called is there, and has no parameters.
+pub record HasMain (code : FCode) : Type 0 where
+  pub main : FFunction
+  pub main_is : slice_get code.functions code.main ≡ Some main
+  pub no_params : main.params ≡ 0
+
+-- the code of a program of numbers
+pub record FitsProgram (code : FCode) : Type 0 where
+  pub functions : FunctionsFit code
+  pub first : HasMain code

@@ -1,26 +1,27 @@
 -- What holds of a machine that runs selected code.
-use Rattle.std.specs.Prelude.{◌≡◌, ℕ, ◌+◌, ◌<◌, ◌≤◌, List, [], length, Some, slice_get}
+use Rattle.std.specs.Prelude.{◌≡◌, ℕ, ◌+◌, ◌<◌, ◌≤◌, List, [], length, Some, slice_get, All}
 use Rattle.size_table.specs.Blocks.{Block}
-use Rattle.flat_code.specs.Code.{FFunction, FCode}
+use Rattle.flat_code.specs.Code.{FCode}
 use Rattle.flat_code.specs.Run.{start, flat_run}
 use Rattle.rv_asm.specs.Runs.{PartsAt}
+use Rattle.rv_image.specs.declared.image.Image.{Image}
+use Rattle.rv_machine.specs.Formed.{IsByte}
+use Rattle.rv_machine.specs.Live.{global_blocks}
+use Rattle.rv_machine.specs.Machine.{machine_after}
 use Rattle.rv_select.specs.Selection.{functions_labels, selected}
-use Rattle.flat_landing.specs.Lands.{outcome_of, Lands}
-use Rattle.select_runs.specs.Fits.{FitsFunction, params_of}
+use Rattle.flat_landing.specs.Lands.{outcome_of, Lands, RunsAs}
+use Rattle.select_runs.specs.Fits.{FitsProgram}
+use Rattle.select_runs.specs.ImageOf.{IsImageOf}
 use Rattle.select_runs.specs.Scene.{Scene, IsScene, StartsAs, after}
 
--- The selected parts of a program of numbers stand in the text, from its begin on. Its functions fit, their frames have no
--- objects, and the first one that is called has no parameters.
+-- The selected parts of a program of numbers stand in the text, from its begin on, and its frames have no objects.
 pub record IsProgramIn (s : Scene) (code : FCode) : Type 0 where
   pub scene : IsScene s
   pub end : ℕ
   pub parts : PartsAt s.text s.all s.labels 4096 (selected 4 code) end
   pub labels : length code.functions + functions_labels 4 code.functions ≤ scene.count
   pub frames : (i : ℕ) → i < length code.functions → slice_get s.frames i ≡ Some []
-  pub fits : (number : ℕ) (f : FFunction) → slice_get code.functions number ≡ Some f → FitsFunction (λ n. params_of (slice_get code.functions n)) number f
-  pub main : FFunction
-  pub main_is : slice_get code.functions code.main ≡ Some main
-  pub no_params : main.params ≡ 0
+  pub fits : FitsProgram code
 
 -- A machine whose text is the selected code of a program of numbers lands for every bound on the turns and nested calls of
 -- flat code: so its runs are those of flat code.
@@ -28,3 +29,10 @@ abbrev pub NumbersLand : Type 0
 NumbersLand =
     (s : Scene) (code : FCode) → IsProgramIn s code → (globals : List Block) (input : List ℕ) → StartsAs s (start code.initial globals input).world
     → (m : ℕ) → Lands s.globals (outcome_of (flat_run 4 code globals s.frames input m)) m (λ n. after s n)
+
+-- An image of the selected code of a program of numbers runs as its flat code does, with the image's global blocks and frames,
+-- on every input.
+abbrev pub SelectionRuns : Type 0
+SelectionRuns =
+    (code : FCode) (image : Image) → IsImageOf code image → (input : List ℕ) → All IsByte input
+    → RunsAs (global_blocks image) (λ m. outcome_of (flat_run 4 code (global_blocks image) image.frames input m)) (machine_after image input)

@@ -1,4 +1,5 @@
 pub mod Frame
 pub mod Scene
 pub mod Fits
+pub mod ImageOf
 pub mod Laws

@@ -13,9 +13,8 @@ use Rattle.rv_machine.specs.Environment.{World}
 use Rattle.rv_machine.specs.Machine.{steps}
 use Rattle.rv_machine.specs.Formed.{IsCore}
 use Rattle.rv_asm.specs.declared.parts.Part.{Part}
-use Rattle.rv_asm.specs.declared.parts.Part.TheVariants.{Jump}
 use Rattle.rv_asm.specs.Parts.{times_in}
-use Rattle.rv_asm.specs.Runs.{IsAt, PartAt}
+use Rattle.rv_asm.specs.Runs.{IsAt}
 use Rattle.rv_select.specs.Straight.{Held}
 use Rattle.rv_select.specs.Follows.{Stands}
 use Rattle.flat_landing.specs.Shared.{shared}
@@ -35,7 +34,7 @@ abbrev pub after : Scene → ℕ → World
 after s n = steps n s.start
 
 -- After each instruction the core is one, and the text stands in its memory; so many labels stand once each; and the program
--- counter is a multiple of 4, and so is the place behind a call.
+-- counter is a multiple of 4.
 pub record IsScene (s : Scene) : Type 0 where
   pub form : (n : ℕ) → IsCore (after s n).machine.core
   pub stands : (n : ℕ) → Stand (after s n).machine.core.memory 4096 s.text
@@ -43,7 +42,6 @@ pub record IsScene (s : Scene) : Type 0 where
   pub count : ℕ
   pub once : (l : ℕ) → l < count → times_in l s.all ≡ 1
   pub aligned : (n : ℕ) → (after s n).machine.core.pc % 4 ≡ 0
-  pub behind : (a b l : ℕ) → a % 4 ≡ 0 → PartAt s.text s.all s.labels a (Jump 1 l) b → (b % 4 ≡ 0) × (4 ≤ b)
 
 -- the machine before its first instruction, beside the first world of flat code
 pub record StartsAs (s : Scene) (w : FWorld) : Type 0 where

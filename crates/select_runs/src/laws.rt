@@ -1,6 +1,6 @@
 //! The laws of selected code that runs.
 ghost use Rattle.select_runs.specs.Frame.{StraightRuns};
-ghost use Rattle.select_runs.specs.Laws.{NumbersLand};
+ghost use Rattle.select_runs.specs.Laws.{NumbersLand, SelectionRuns};
 
 /// Straight code that stands in a text is done in as many steps as it has instructions. It tells accesses to the control
 /// frame alone, and changes nothing but registers and that frame.
@@ -29,4 +29,17 @@ pub fn numbers_land()
     bb_watch::laws::open_appends();
     flat_code::laws::tells_append();
     flat_verify::laws::items_are_steps();
+}
+
+/// An image of the selected code of a program of numbers runs as its flat code does.
+pub fn selection_runs()
+    ensures { SelectionRuns }
+{
+    numbers_land();
+    rv_machine::laws::runs_are_formed();
+    rv_machine::laws::text_stands();
+    rv_machine::laws::pc_is_aligned();
+    rv_machine::laws::memory_starts();
+    rv_select::laws::labels_stand_once();
+    flat_landing::laws::landings_run();
 }

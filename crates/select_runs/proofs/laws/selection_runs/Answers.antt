@@ -1,0 +1,13 @@
+use Rattle.select_runs.proofs.Images.{selection_runs}
+use Rattle.select_runs.proofs.laws.selection_runs.Goals as goal
+
+pub returns : goal.returns
+returns c = selection_runs (record {
+  formed = c.runs_are_formed.ensures;
+  stands = c.text_stands.ensures;
+  aligned = c.pc_is_aligned.ensures;
+  memory = c.memory_starts.ensures;
+  once = c.labels_stand_once.ensures;
+  lands = c.numbers_land.ensures;
+  runs = c.landings_run.ensures;
+})
