@@ -5,5 +5,6 @@ pub mod Leading
 pub mod Read
 mod Resolvable
 mod Shaped
+mod ShapedText
 pub mod Sizes
 mod Sound

@@ -1,5 +1,5 @@
 -- The parts that are selected are shaped.
-use Rattle.std.proofs.Common.{◌≡◌, ◌==◌, ℕ, zero, suc, ◌+◌, ◌-◌, ◌/◌, ◌%◌, ◌^◌, ◌<◌, ◌≤◌, Bool, true, false, ◌&&◌, min, if◌then◌else◌, List, [], ◌∷◌, ◌++◌, length, Option, None, Some, refl, arith, lit<, lit≤, ltb-true}
+use Rattle.std.proofs.Common.{◌≡◌, ◌==◌, ℕ, zero, suc, ◌+◌, ◌-◌, ◌/◌, ◌%◌, ◌^◌, ◌<◌, ◌≤◌, Bool, true, false, ◌&&◌, min, if◌then◌else◌, List, [], ◌∷◌, ◌++◌, length, Option, None, Some, refl, arith, lit≤, ltb-true}
 use Rattle.std.specs.Prelude.{nat_lt}
 use Rattle.std.specs.List.{AllByRecursion}
 use Rattle.std.proofs.lemmas.Bool.Decides.{nat_tests}
@@ -10,7 +10,7 @@ use Rattle.bb_words.specs.declared.steps.ArithOp.TheVariants as op
 use Rattle.bb_words.specs.declared.steps.Width.{Width}
 use Rattle.bb_words.specs.declared.steps.Width.TheVariants as width
 use Rattle.marked_ptr.specs.Marked.{half_slot}
-use Rattle.flat_code.specs.Code.{FStep, FFunction, FCode}
+use Rattle.flat_code.specs.Code.{FStep, FFunction}
 use Rattle.flat_code.specs.Recognized.{Sequence}
 use Rattle.flat_verify.specs.Items.{Item, Items, items_of}
 use Rattle.rv_asm.specs.Text.{upper_part, lower_part}
@@ -21,9 +21,9 @@ use Rattle.rv_code.specs.declared.instr.Instr.{Instr}
 use Rattle.rv_code.specs.declared.instr.Instr.TheVariants.{Lui, Addi, Add, Sub, Lbu, Jalr}
 use Rattle.rv_select.specs.Layout.{cell, frame_bytes, negative, load, store, constant, is_short}
 use Rattle.rv_select.specs.Steps.{plains, fetch, operation, owner_code, look_code, read_code, write_code, call_code, report_code, environment_arguments, line_code, arguments_code, step_parts, label_out}
-use Rattle.rv_select.specs.Checks.{find_block, find_base, find_offset, widen, mark_code, unless_parts, move_end, move_parts, load_begin, load_owner, load_parts, count_code, touch_code, last_distance, span_parts, sequence_parts}
+use Rattle.rv_select.specs.Checks.{find_block, find_base, mark_code, unless_parts, move_end, move_parts, load_begin, load_parts, touch_code, last_distance, span_parts, sequence_parts}
 use Rattle.rv_select.specs.Selection.{choice_parts, is_end, loop_parts, item_labels, items_labels, held_behind, item_parts, items_parts, zeros, zero_loop, zero_loop_if, parameters, parameters_code, parameters_if, frame_parts, enter_code, leave_code, return_code, function_parts, function_labels, functions_parts, start_parts, selected}
-use Rattle.rv_select.specs.Shape.{is_spare, leaves_spare, is_regular, is_shaped, AreShaped}
+use Rattle.rv_select.specs.Shape.{is_shaped}
 use Rattle.rv_select.specs.Laws.{PartsAreShaped}
 use Rattle.rv_select.proofs.Encodable.{both}
 

@@ -1,6 +1,6 @@
 //! What holds of the parts that are selected, for what stands on it.
 ghost use Rattle.rv_select.specs.Follows.{StepsLead};
-ghost use Rattle.rv_select.specs.Laws.{PartsAreLight, LabelsStandOnce, PartsAreResolvable, PartsAreShaped};
+ghost use Rattle.rv_select.specs.Laws.{PartsAreLight, LabelsStandOnce, PartsAreResolvable, PartsAreShaped, TextsHaveShape};
 
 /// The parts need at most as many bytes as the code weighs, with every branch and jump in its longest form.
 pub fn parts_are_light()
@@ -26,3 +26,10 @@ pub fn parts_are_resolvable()
 pub fn parts_are_shaped()
     ensures { PartsAreShaped }
 {}
+
+/// Shaped parts are resolved to words that have the shape.
+pub fn texts_have_shape()
+    ensures { TextsHaveShape }
+{
+    rv_code::laws::reads_back();
+}
