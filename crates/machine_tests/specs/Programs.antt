@@ -1,9 +1,11 @@
--- A small program in flat code.
+-- Small programs in flat code.
 use Rattle.std.specs.Prelude.{[], ◌∷◌}
 use Rattle.bb_words.specs.declared.kinds.ReportKind.TheVariants.{DivZero}
 use Rattle.bb_words.specs.declared.steps.ArithOp.TheVariants.{Sub, Ltu}
 use Rattle.flat_code.specs.Code.{FSteps, FFunction, FCode, steps}
-use Rattle.flat_code.specs.Code.FStep.{Number, Arith, If, Call, Return, LineMark, Report}
+use Rattle.bb_words.specs.declared.steps.Width.TheVariants.{Byte, Word}
+use Rattle.flat_code.specs.Code.FStep.{Number, Arith, If, Block, Loop, Exit, Call, Return, FrameAt, Load, Store, LineMark, Report, Env}
+use Rattle.flat_code.specs.Sequences.{move_sequence}
 
 -- the first function returns what the second one gives for 42 and 100,000
 abbrev pub first_steps : FSteps
@@ -27,3 +29,18 @@ second = record { values = 3; params = 2; frame = 0; line = 1; body = second_ste
 
 abbrev pub difference : FCode
 difference = record { functions = first ∷ second ∷ []; main = 0; initial = [] }
+
+-- a byte is loaded and written, once
+abbrev pub written_again : FSteps
+written_again = steps (Load 6 2 Byte ∷ Env 7 3 6 6 ∷ Exit 1 ∷ [])
+
+-- a pointer into the frame is moved by 4, a word is stored there, and its first byte is written
+abbrev pub moved_steps : FSteps
+moved_steps =
+    steps (FrameAt 0 0 ∷ Number 1 4 ∷ Number 3 2 ∷ Block (move_sequence 4 0 1 2 3 4 5) ∷ Store 2 1 Word ∷ Loop written_again ∷ Return 7 ∷ [])
+
+abbrev pub moving : FFunction
+moving = record { values = 10; params = 0; frame = 16; line = 2; body = moved_steps }
+
+abbrev pub moved : FCode
+moved = record { functions = moving ∷ []; main = 0; initial = [] }

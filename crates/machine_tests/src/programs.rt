@@ -1,4 +1,4 @@
-//! A small program in flat code, for the tests of selected code.
+//! Small programs in flat code, for the tests of selected code.
 #![tactic(auto, using(flat_code::proofs::CodeViewed::flat_views))]
 
 ghost use Rattle.std.specs.Prelude.{◌≡◌, ◌∷◌, [], IfOk};
@@ -7,9 +7,10 @@ ghost use Rattle.machine_tests.specs.Programs as program;
 
 use bb_words::kinds::ReportKind;
 use bb_words::list::List;
-use bb_words::steps::ArithOp;
+use bb_words::steps::{ArithOp, Width};
 use bb_words::word::Word;
 use flat_code::code::{Flat, FlatFunction, FlatStep};
+use flat_code::emit::{MoveValues, move_steps};
 use std::alloc::{AllocError, Global};
 
 fn first_steps(alloc: Global) -> Result<List<FlatStep>, AllocError>
@@ -107,6 +108,78 @@ pub fn difference(alloc: Global) -> Result<Flat, AllocError>
         frame: 0,
         line: 1,
         body: second_steps(alloc)?,
+    })?;
+    Ok(Flat {
+        functions,
+        main: 0,
+        initial: List::new(alloc),
+    })
+}
+
+fn written_again(alloc: Global) -> Result<Vec<FlatStep>, AllocError>
+    ensures { IfOk result (λ body. steps_of body.items ≡ program.written_again) }
+{
+    let mut body = Vec::new(alloc);
+    body.push(FlatStep::Load {
+        to: 6,
+        at: 2,
+        width: Width::Byte,
+    })?;
+    body.push(FlatStep::Env {
+        to: 7,
+        call: 3,
+        a: 6,
+        b: 6,
+    })?;
+    body.push(FlatStep::Exit { levels: 1 })?;
+    Ok(body)
+}
+
+fn moved_steps(alloc: Global) -> Result<List<FlatStep>, AllocError>
+    ensures { IfOk result (λ body. steps_of body ≡ program.moved_steps) }
+{
+    let values = MoveValues {
+        pointer: 0,
+        distance: 1,
+        result: 2,
+        line: 3,
+        slot: 4,
+        exponent: 5,
+    };
+    let moving = move_steps(alloc, 4, values)?;
+    let writing = written_again(alloc)?;
+    let mut body = List::new(alloc);
+    body.push(FlatStep::FrameAt { to: 0, offset: 0 })?;
+    body.push(FlatStep::Number {
+        to: 1,
+        value: Word(4),
+    })?;
+    body.push(FlatStep::Number {
+        to: 3,
+        value: Word(2),
+    })?;
+    body.push(FlatStep::Block { body: moving })?;
+    body.push(FlatStep::Store {
+        at: 2,
+        from: 1,
+        width: Width::Word,
+    })?;
+    body.push(FlatStep::Loop { body: writing })?;
+    body.push(FlatStep::Return { from: 7 })?;
+    Ok(body)
+}
+
+/// One function, which moves a pointer into its frame and uses it.
+pub fn moved(alloc: Global) -> Result<Flat, AllocError>
+    ensures { IfOk result (λ flat. code_of flat ≡ program.moved) }
+{
+    let mut functions = List::new(alloc);
+    functions.push(FlatFunction {
+        values: 10,
+        params: 0,
+        frame: 16,
+        line: 2,
+        body: moved_steps(alloc)?,
     })?;
     Ok(Flat {
         functions,
