@@ -1,4 +1,4 @@
-//! Tests of instructions, images and labels, apart from their crates, so that the proofs there are checked once.
+//! Tests of instructions, images, labels and selected code, apart from their crates, so that the proofs there are checked once.
 #![tactic(auto)]
 
 pub mod around;
@@ -8,3 +8,6 @@ mod code;
 mod images;
 #[cfg(test)]
 mod labels;
+pub mod programs;
+#[cfg(test)]
+mod selected;

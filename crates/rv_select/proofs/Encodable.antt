@@ -122,7 +122,7 @@ short_signed n h e = by (nat_lt n 2048) (nat_le (2 ^ 32 - 2048) n) refl refl e
     by false true p q t = let l : 2 ^ 32 - 2048 ≤ n = grind (arith, nat_tests) in (h, omega (arith, h, l))
     by false false p q t = absurd (let z : false ≡ true = t in cc)
 
-lower_fits : (n : ℕ) → IsSigned 12 (lower_part n)
+pub lower_fits : (n : ℕ) → IsSigned 12 (lower_part n)
 lower_fits n = by (nat_lt (n % 4096) 2048) refl
   where
     by : (b : Bool) → nat_lt (n % 4096) 2048 ≡ b → IsSigned 12 (if b then n % 4096 else n % 4096 + (2 ^ 32 - 2 ^ 12))

@@ -4,9 +4,12 @@ use Rattle.size_table.specs.Blocks.{Block}
 use Rattle.flat_code.specs.Code.{FCode}
 use Rattle.flat_code.specs.Weight.{weight}
 use Rattle.flat_verify.specs.Discipline.{IsDisciplined}
+use Rattle.rv_asm.specs.declared.parts.Part.{Part}
 use Rattle.rv_asm.specs.Parts.{long_sizes, times_in, AreParts}
+use Rattle.rv_asm.specs.Runs.{IsResolved}
 use Rattle.rv_select.specs.Selection.{functions_labels, selected}
 use Rattle.rv_select.specs.Words.{HasWords}
+use Rattle.rv_select.specs.Shape.{AreShaped, HasShape}
 
 -- The parts need at most as many bytes as the code weighs, with every branch and jump in its longest form.
 abbrev pub PartsAreLight : Type 0
@@ -27,3 +30,11 @@ abbrev pub PartsAreResolvable : Type 0
 PartsAreResolvable =
     (g : ℕ) (globals : List Block) (code : FCode) → 2 ≤ g → g ≤ 24 → IsDisciplined g globals code → HasWords code → weight g code ≤ 2093056
     → AreParts (selected g code)
+
+-- The parts are shaped, whatever the code is.
+abbrev pub PartsAreShaped : Type 0
+PartsAreShaped = (g : ℕ) (code : FCode) → AreShaped (selected g code)
+
+-- Shaped parts are resolved to words that have the shape.
+abbrev pub TextsHaveShape : Type 0
+TextsHaveShape = (parts : List Part) (text : List ℕ) → AreParts parts → AreShaped parts → IsResolved parts text → HasShape text

@@ -5,4 +5,5 @@ pub mod Selection
 pub mod Straight
 pub mod Follows
 pub mod Words
+pub mod Shape
 pub mod Laws

@@ -1,6 +1,6 @@
 //! What holds of the parts that are selected, for what stands on it.
 ghost use Rattle.rv_select.specs.Follows.{StepsLead};
-ghost use Rattle.rv_select.specs.Laws.{PartsAreLight, LabelsStandOnce, PartsAreResolvable};
+ghost use Rattle.rv_select.specs.Laws.{PartsAreLight, LabelsStandOnce, PartsAreResolvable, PartsAreShaped, TextsHaveShape};
 
 /// The parts need at most as many bytes as the code weighs, with every branch and jump in its longest form.
 pub fn parts_are_light()
@@ -21,3 +21,15 @@ pub fn labels_stand_once()
 pub fn parts_are_resolvable()
     ensures { PartsAreResolvable }
 {}
+
+/// The parts are shaped: they leave x3, x4, x29 and x30 alone, and their jumps and accesses have few forms.
+pub fn parts_are_shaped()
+    ensures { PartsAreShaped }
+{}
+
+/// Shaped parts are resolved to words that have the shape.
+pub fn texts_have_shape()
+    ensures { TextsHaveShape }
+{
+    rv_code::laws::reads_back();
+}

@@ -4,10 +4,11 @@ ghost use Rattle.flat_code.specs.CodeViews.{code_of};
 ghost use Rattle.flat_code.specs.Weight.{weight};
 ghost use Rattle.rv_asm.specs.Parts.{AreParts};
 ghost use Rattle.rv_select.specs.Selection.{selected};
+ghost use Rattle.rv_select.specs.Shape.{AreShaped};
 ghost use Rattle.rv_select.specs.Words.{HasWords};
 
 use crate::functions::{put_functions, put_start};
-use crate::laws::parts_are_resolvable;
+use crate::laws::{parts_are_resolvable, parts_are_shaped};
 use crate::words::numbers_are_words;
 use bb_words::list::List;
 use flat_code::code::Flat;
@@ -22,9 +23,11 @@ pub fn select(alloc: Global, verified: Verified<'_>) -> Result<Labelled, AllocEr
     ensures parts { IfOk result (λ labelled. labelled.parts ≡ selected verified.entry.exponent (code_of verified.entry.code.now)) }
     // They can be resolved, if the code weighs no more than a text has room for.
     ensures resolvable { weight verified.entry.exponent (code_of verified.entry.code.now) ≤ 2093056 → IfOk result (λ labelled. AreParts labelled.parts) }
+    ensures shape { IfOk result (λ labelled. AreShaped labelled.parts) }
     ensures words { HasWords (code_of verified.entry.code.now) }
 {
     parts_are_resolvable();
+    parts_are_shaped();
     numbers_are_words(verified.code);
     let parts = parts_of(alloc, verified.exponent, verified.code)?;
     Ok(Labelled {
