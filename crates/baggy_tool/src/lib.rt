@@ -6,7 +6,7 @@
 mod decimal;
 pub mod ending;
 mod notes;
-mod refusals;
 mod reader;
+mod refusals;
 pub mod run;
 mod words;

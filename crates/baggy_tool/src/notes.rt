@@ -79,7 +79,11 @@ fn trap_name(kind: TrapKind) -> &'static [u8]
 }
 
 /// Writes a text, a number and a line feed.
-pub(crate) fn put_numbered<E: Sink>(notes: &mut E, text: &[u8], number: u32) -> Result<(), SinkFailed>
+pub(crate) fn put_numbered<E: Sink>(
+    notes: &mut E,
+    text: &[u8],
+    number: u32,
+) -> Result<(), SinkFailed>
     ensures noted { Noted result (numbered text.now number) (E.written notes.old) (E.written notes.new) }
     ensures cause { HasCause (E.faults notes.old) (E.faults notes.new) result }
 {
@@ -105,7 +109,11 @@ pub(crate) fn put_two<E: Sink>(
 }
 
 /// Writes one text and then another.
-pub(crate) fn put_both<E: Sink>(notes: &mut E, first: &[u8], second: &[u8]) -> Result<(), SinkFailed>
+pub(crate) fn put_both<E: Sink>(
+    notes: &mut E,
+    first: &[u8],
+    second: &[u8],
+) -> Result<(), SinkFailed>
     ensures noted { Noted result (first.now ++ second.now) (E.written notes.old) (E.written notes.new) }
     ensures cause { HasCause (E.faults notes.old) (E.faults notes.new) result }
 {

@@ -135,7 +135,13 @@ fn note_lower_error<E: Sink>(notes: &mut E, error: &LowerError) -> Result<(), Si
         }
         LowerError::TooManyValues { function, count } => {
             let name = function.as_slice();
-            put_named(notes, b"baggy: refused TooManyValues ", name, b" count ", *count)
+            put_named(
+                notes,
+                b"baggy: refused TooManyValues ",
+                name,
+                b" count ",
+                *count,
+            )
         }
         LowerError::NotBuilt | LowerError::Memory => Ok(()),
     }

@@ -12,14 +12,14 @@ ghost use Rattle.c_typing.specs.UnitSteps as steps;
 use crate::file::File;
 use crate::functions::{Role, declared_function};
 use crate::objects::declared_object;
-use c_types::calls::copied;
-use c_types::declarator::{declared_name, steps};
-use c_types::parts::{Param, Part};
-use c_types::table::Table;
 use c_rules::error::TypeError;
 use c_tree::syntax::{InitDeclarator, Initializer};
 use c_typed::typed::Function;
 use c_typed::types::Ty;
+use c_types::calls::copied;
+use c_types::declarator::{declared_name, steps};
+use c_types::parts::{Param, Part};
+use c_types::table::Table;
 use c_words::place::{At, Name};
 use std::alloc::Global;
 

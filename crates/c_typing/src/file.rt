@@ -6,12 +6,12 @@ ghost use Rattle.c_typing.specs.Units as spec;
 ghost use Rattle.c_typing.specs.UnitSteps.{file_of};
 
 use crate::unit::{external, externals};
-use c_types::declarator::declared_name;
-use c_types::scene::Scene;
-use c_types::table::Table;
 use c_rules::error::TypeError;
 use c_tree::syntax::External;
 use c_typed::typed::{Function, Global as NamedObject};
+use c_types::declarator::declared_name;
+use c_types::scene::Scene;
+use c_types::table::Table;
 use std::alloc::Global;
 
 /// What is typed of the file so far. Contracts see it as a `CFile`, by `file_of`.

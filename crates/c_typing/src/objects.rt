@@ -13,17 +13,17 @@ ghost use Rattle.c_typing.specs.UnitSteps.{file_of};
 ghost use Rattle.c_typing.specs.UnitSteps as steps;
 
 use crate::file::File;
+use bb_words::list::List;
+use c_rules::error::TypeError;
+use c_tree::syntax::Initializer;
+use c_typed::typed::Global as NamedObject;
+use c_typed::types::{StructType, Ty};
 use c_types::calls::in_library;
 use c_types::declarator::{completed, has_many_params, steps};
 use c_types::initial_bytes::initial_bytes;
 use c_types::initializer::initialized;
 use c_types::parts::{Part, has_function, is_incomplete, lacks_size, made_from, size_of};
 use c_types::scene::{Entry, Scene, at_file_scope};
-use bb_words::list::List;
-use c_rules::error::TypeError;
-use c_tree::syntax::Initializer;
-use c_typed::typed::{Global as NamedObject};
-use c_typed::types::{StructType, Ty};
 use c_words::place::{At, Name};
 use std::alloc::Global;
 

@@ -14,18 +14,18 @@ ghost use Rattle.c_typing.specs.UnitSteps as steps;
 
 use crate::bodies::defined;
 use crate::declarations::all_declared;
-use crate::laws::{files_are_typed, files_have_lines};
 use crate::file::{File, definitions, empty_file};
-use c_types::calls::copied;
-use c_types::expression::based;
-use c_types::scene::{Declared, Scene};
-use c_types::structs::struct_defined;
-use c_types::table::Table;
+use crate::laws::{files_are_typed, files_have_lines};
 use bb_words::list::List;
 use c_rules::error::TypeError;
 use c_tree::syntax::{External, Head, Unit};
 use c_typed::typed::{Function, Program};
 use c_typed::types::Ty;
+use c_types::calls::copied;
+use c_types::expression::based;
+use c_types::scene::{Declared, Scene};
+use c_types::structs::struct_defined;
+use c_types::table::Table;
 use std::alloc::Global;
 use std::mem;
 

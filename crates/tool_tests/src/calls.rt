@@ -109,7 +109,13 @@ const NOT_BUILT: &str = "baggy: refused NotBuilt\n";
 
 // A text, the statuses of its run and of its check, and the notes of each. Nothing is read or written.
 const TEXTS: [(&str, u8, &str, u8, &str); 26] = [
-    ("int main(void) { return 1 - (2 - 3) - 300; }", 214, "", 0, ""),
+    (
+        "int main(void) { return 1 - (2 - 3) - 300; }",
+        214,
+        "",
+        0,
+        "",
+    ),
     (
         "int main(void){return 2147483647 + 2147483647 + 4;}",
         2,
@@ -176,7 +182,13 @@ const TEXTS: [(&str, u8, &str, u8, &str); 26] = [
     ),
     ("char a[1048577];", 124, TOO_MUCH, 124, TOO_MUCH),
     (MANY_PARAMS, 124, TOO_MANY, 124, TOO_MANY),
-    ("int main(void) { return 1 }", 124, NO_SEMICOLON, 124, NO_SEMICOLON),
+    (
+        "int main(void) { return 1 }",
+        124,
+        NO_SEMICOLON,
+        124,
+        NO_SEMICOLON,
+    ),
     ("return", 124, AT_START, 124, AT_START),
     (
         "int main(void){return (1;}",
@@ -198,12 +210,15 @@ const TEXTS: [(&str, u8, &str, u8, &str); 26] = [
 ];
 
 // 4,096 calls at once, and one more.
-const DEEP: &str = "int f(int n) { if (n == 0) return 0; return f(n - 1); } int main(void) { return f(4094); }";
+const DEEP: &str =
+    "int f(int n) { if (n == 0) return 0; return f(n - 1); } int main(void) { return f(4094); }";
 
-const TOO_DEEP: &str = "int f(int n) { if (n == 0) return 0; return f(n - 1); } int main(void) { return f(4095); }";
+const TOO_DEEP: &str =
+    "int f(int n) { if (n == 0) return 0; return f(n - 1); } int main(void) { return f(4095); }";
 
 // The least number by -1.
-const LEAST: &str = "int main(void) { int m = -2147483647 - 1; int d = -1; return m / d == m && m % d == 0; }";
+const LEAST: &str =
+    "int main(void) { int m = -2147483647 - 1; int d = -1; return m / d == m && m % d == 0; }";
 
 // A char keeps the lowest byte, an unsigned wraps around, and -1 is compared as the greatest unsigned.
 const CONVERTED: &str =
@@ -289,11 +304,11 @@ const TALKS: [(&str, &[u8], &[u8], u8); 4] = [
     (GCD, b"84 30\n", b"6\n", 0),
 ];
 
-const ECHO: &str =
-    "int main(void) { int c; while ((c = getchar()) != EOF) putchar(c); return 0; }";
+const ECHO: &str = "int main(void) { int c; while ((c = getchar()) != EOF) putchar(c); return 0; }";
 
 // The greatest common divisor of two numbers of the input.
-const GCD: &str = "int read(void) { int n = 0; int c; while ((c = getchar()) >= '0' && c <= '9') n = n * 10 + c - '0'; return n; }
+const GCD: &str =
+    "int read(void) { int n = 0; int c; while ((c = getchar()) >= '0' && c <= '9') n = n * 10 + c - '0'; return n; }
 void print(int n) { if (n >= 10) print(n / 10); putchar('0' + n % 10); }
 int main(void) { int a = read(); int b = read(); while (b != 0) { int r = a % b; a = b; b = r; } print(a); putchar('\n'); return 0; }";
 

@@ -23,9 +23,9 @@ returns c =
     } in
     let verified = c.in-Ok-verify.ensures in
     let light : weight c.in-Ok-verify.verified.exponent (code_of c.in-Ok-verify.verified.code.now) ≤ 2093056 =
-        let a = c.in-Ok.ensures.1.light in
-        let b = c.requires.light in
-        rw (verified.exponent, verified.code) (omega (arith, a, b))
+    let a = c.in-Ok.ensures.1.light in
+    let b = c.requires.light in
+    rw (verified.exponent, verified.code) (omega (arith, a, b))
     in
     let same = c.in_ok-labelled.ensures.parts ∙ ap (λ f. selected c.in-Ok-verify.verified.exponent (code_of f)) verified.code ∙ ap (λ g. selected g (code_of c.in-Ok.flat)) verified.exponent in
     made p (code_of c.in-Ok.flat) c.in_ok-labelled.labelled.parts image plain c.requires.few c.in-Ok.ensures.1 (c.in_ok-labelled.ensures.resolvable light) same c.in_ok-text.ensures
