@@ -54,6 +54,13 @@ took {s = s} {c = c} {within = within} {f = f} {w = w} {old = old} {mid = mid} {
 pub gave : {s : Sort} {A : Type 0} {v : A → Value s} {x : A} {y : Value s} {old : List Placed} → v x ≡ y → Reads s (Program.give y) v old (Ok x) old
 gave {s = s} {y = y} {old = old} e = record { answer = subst (λ z. Runs within_limits s (Program.give y) old (Outcome.read z old)) (sym e) Runs.give }
 
+-- the same answer seen by another view
+pub failed_as : {s : Sort} {A B : Type 0} {p : Program s} {v : A → Value s} {w : B → Value s} {old new : List Placed} {e : Stop} → Reads s p v old (Err e) new → Reads s p w old (Err e) new
+failed_as a = record { answer = a.answer }
+
+pub read_as : {s : Sort} {A B : Type 0} {p : Program s} {v : A → Value s} {w : B → Value s} {old new : List Placed} {x : A} {y : B} → Reads s p v old (Ok x) new → w y ≡ v x → Reads s p w old (Ok y) new
+read_as {s = s} {p = p} {old = old} {new = new} a e = record { answer = subst (λ z. Runs within_limits s p old (Outcome.read z new)) (sym e) a.answer }
+
 pub no_memory : {s : Sort} {A : Type 0} {p : Program s} {v : A → Value s} {old new : List Placed} → Reads s p v old (Err stop.Memory) new
 no_memory = record { answer = tt }
 

@@ -227,27 +227,20 @@ impl<'a> Cursor<'a> {
     pub fn take_word(&mut self, word: Reserved) -> Result<At, Stop>
         ensures { Takes (tokens.Token.Word word) true self.old result self.new }
     {
-        if self.word() != Some(word) {
+        if !self.sees_word(word) {
             return Err(Stop::Syntax);
         }
-        let at = self.tokens[self.at].at(self.at as u32);
-        self.at += 1;
-        Ok(at)
+        self.take_next(true)
     }
 
     /// Takes the next token, which is this one, where that is within the limits.
     pub fn take_mark(&mut self, mark: Punctuator, within: bool) -> Result<At, Stop>
         ensures { Takes (tokens.Token.Mark mark) within self.old result self.new }
     {
-        if self.mark() != Some(mark) {
+        if !self.sees(mark) {
             return Err(Stop::Syntax);
         }
-        if !within {
-            return Err(Stop::TooDeep);
-        }
-        let at = self.tokens[self.at].at(self.at as u32);
-        self.at += 1;
-        Ok(at)
+        self.take_next(within)
     }
 
     /// Whether no token is left.

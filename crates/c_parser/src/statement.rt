@@ -49,6 +49,17 @@ pub fn statement(
     simple(alloc, cursor, depth)
 }
 
+// A statement as a part of another one, in memory of its own.
+#[cycle(statement)]
+fn inner(alloc: Global, cursor: &mut Cursor<'_>, depth: u32) -> Result<(Box<Statement>, bool), Stop>
+    requires { depth ≤ 200 }
+    ensures { Reads Sort.statement (body (Rule.statement depth)) (λ x. (statement_tree x.0.value, x.1)) cursor.old result cursor.new }
+{
+    let (statement, is_open) = statement(alloc, cursor, depth)?;
+    let statement = statement.boxed(alloc)?;
+    Ok((statement, is_open))
+}
+
 // `if` (C11 6.8.4.1)
 #[cycle(statement)]
 fn if_statement(
@@ -63,7 +74,7 @@ fn if_statement(
     cursor.take_mark(Punctuator::OpenParen, depth < LEVELS)?;
     let condition = expression(alloc, cursor, depth + 1)?;
     cursor.take_mark(Punctuator::CloseParen, true)?;
-    let (then, is_open) = statement(alloc, cursor, depth + 1)?;
+    let (then, is_open) = inner(alloc, cursor, depth + 1)?;
     let condition = condition.into_expression();
     otherwise(alloc, cursor, depth, at, condition, then, is_open)
 }
@@ -76,24 +87,21 @@ fn otherwise(
     depth: u32,
     at: At,
     condition: Expression,
-    then: Statement,
+    then: Box<Statement>,
     is_open: bool,
 ) -> Result<(Statement, bool), Stop>
     requires { depth < 200 }
-    ensures { Reads Sort.statement (bodies.else_by at (expression_tree condition) depth (statement_tree then, is_open)) (λ x. (statement_tree x.0, x.1)) cursor.old result cursor.new }
+    ensures { Reads Sort.statement (bodies.else_by at (expression_tree condition) depth (statement_tree then.value, is_open)) (λ x. (statement_tree x.0, x.1)) cursor.old result cursor.new }
 {
     if is_open {
-        let statement = trees::only_if(alloc, at, condition, then)?;
-        return Ok((statement, true));
+        return Ok((trees::only_if(at, condition, then), true));
     }
     if !cursor.sees_word(Reserved::Else) {
-        let statement = trees::only_if(alloc, at, condition, then)?;
-        return Ok((statement, true));
+        return Ok((trees::only_if(at, condition, then), true));
     }
     cursor.take_word(Reserved::Else)?;
-    let (other, is_open) = statement(alloc, cursor, depth + 1)?;
-    let statement = trees::if_else(alloc, at, condition, then, other)?;
-    Ok((statement, is_open))
+    let (other, is_open) = inner(alloc, cursor, depth + 1)?;
+    Ok((trees::if_else(at, condition, then, other), is_open))
 }
 
 // `while` (C11 6.8.5.1)
@@ -110,9 +118,11 @@ fn while_statement(
     cursor.take_mark(Punctuator::OpenParen, depth < LEVELS)?;
     let condition = expression(alloc, cursor, depth + 1)?;
     cursor.take_mark(Punctuator::CloseParen, true)?;
-    let (body, is_open) = statement(alloc, cursor, depth + 1)?;
-    let statement = trees::while_loop(alloc, at, condition.into_expression(), body)?;
-    Ok((statement, is_open))
+    let (body, is_open) = inner(alloc, cursor, depth + 1)?;
+    Ok((
+        trees::while_loop(at, condition.into_expression(), body),
+        is_open,
+    ))
 }
 
 // `do` (C11 6.8.5.2)
@@ -132,14 +142,16 @@ fn do_statement(
     if depth >= LEVELS {
         return Err(Stop::TooDeep);
     }
-    let (body, _) = statement(alloc, cursor, depth + 1)?;
+    let (body, _) = inner(alloc, cursor, depth + 1)?;
     cursor.take_word(Reserved::While)?;
     cursor.take_mark(Punctuator::OpenParen, true)?;
     let condition = expression(alloc, cursor, depth + 1)?;
     cursor.take_mark(Punctuator::CloseParen, true)?;
     cursor.take_mark(Punctuator::Semicolon, true)?;
-    let statement = trees::do_while(alloc, at, body, condition.into_expression())?;
-    Ok((statement, false))
+    Ok((
+        trees::do_while(at, body, condition.into_expression()),
+        false,
+    ))
 }
 
 // `for` (C11 6.8.5.3)
@@ -159,9 +171,8 @@ fn for_statement(
     cursor.take_mark(Punctuator::Semicolon, true)?;
     let step = optional_step(alloc, cursor, depth + 1)?;
     cursor.take_mark(Punctuator::CloseParen, true)?;
-    let (body, is_open) = statement(alloc, cursor, depth + 1)?;
-    let statement = trees::for_loop(alloc, at, start, condition, step, body)?;
-    Ok((statement, is_open))
+    let (body, is_open) = inner(alloc, cursor, depth + 1)?;
+    Ok((trees::for_loop(at, start, condition, step, body), is_open))
 }
 
 /// A block (C11 6.8.2).

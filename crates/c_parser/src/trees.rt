@@ -1,5 +1,5 @@
 //! Trees of declarations and statements, and what they stand for.
-ghost use Rattle.std.specs.Prelude.{◌≡◌, map, IfOk};
+ghost use Rattle.std.specs.Prelude.{◌≡◌, map};
 ghost use Rattle.std.specs.Option.{option_map};
 ghost use Rattle.c_tree.specs.Syntax.{ParameterDeclaratorTree, DeclaratorTree, InitializerTree, StatementTree, BlockTree, BlockItemTree};
 ghost use Rattle.c_tree.specs.SyntaxViews.{expression_tree, array_tree, parameter_declarator_tree, suffix_tree, declarator_tree, initializer_tree, initializer_trees, declaration_tree, for_start_tree, statement_tree, block_tree, block_item_tree, block_item_trees};
@@ -9,7 +9,6 @@ use c_tree::syntax::{
     ParameterDeclarator, Statement, Suffix,
 };
 use c_words::place::{At, Name};
-use std::alloc::{AllocError, Global};
 
 /// A parameter's pointers and arrays.
 #[tactic(auto, using(c_tree::proofs::SyntaxViews::declaration_views))]
@@ -109,100 +108,77 @@ pub fn value_statement(at: At, value: Expression) -> Statement
 
 /// `if ( condition ) then`
 #[tactic(auto, using(c_tree::proofs::SyntaxViews::statement_views))]
-pub fn only_if(
-    alloc: Global,
-    at: At,
-    condition: Expression,
-    then: Statement,
-) -> Result<Statement, AllocError>
-    ensures { IfOk result (λ x. statement_tree x ≡ StatementTree.If at (expression_tree condition) (statement_tree then)) }
+pub fn only_if(at: At, condition: Expression, then: Box<Statement>) -> Statement
+    ensures { statement_tree result ≡ StatementTree.If at (expression_tree condition) (statement_tree then.value) }
 {
-    let then = then.boxed(alloc)?;
-    Ok(Statement::If {
+    Statement::If {
         at,
         condition,
         then,
         otherwise: None,
-    })
+    }
 }
 
 /// `if ( condition ) then else otherwise`
 #[tactic(auto, using(c_tree::proofs::SyntaxViews::statement_views))]
 pub fn if_else(
-    alloc: Global,
     at: At,
     condition: Expression,
-    then: Statement,
-    otherwise: Statement,
-) -> Result<Statement, AllocError>
-    ensures { IfOk result (λ x. statement_tree x ≡ StatementTree.IfElse at (expression_tree condition) (statement_tree then) (statement_tree otherwise)) }
+    then: Box<Statement>,
+    otherwise: Box<Statement>,
+) -> Statement
+    ensures { statement_tree result ≡ StatementTree.IfElse at (expression_tree condition) (statement_tree then.value) (statement_tree otherwise.value) }
 {
-    let then = then.boxed(alloc)?;
-    let otherwise = otherwise.boxed(alloc)?;
-    Ok(Statement::If {
+    Statement::If {
         at,
         condition,
         then,
         otherwise: Some(otherwise),
-    })
+    }
 }
 
 /// `while ( condition ) body`
 #[tactic(auto, using(c_tree::proofs::SyntaxViews::statement_views))]
-pub fn while_loop(
-    alloc: Global,
-    at: At,
-    condition: Expression,
-    body: Statement,
-) -> Result<Statement, AllocError>
-    ensures { IfOk result (λ x. statement_tree x ≡ StatementTree.While at (expression_tree condition) (statement_tree body)) }
+pub fn while_loop(at: At, condition: Expression, body: Box<Statement>) -> Statement
+    ensures { statement_tree result ≡ StatementTree.While at (expression_tree condition) (statement_tree body.value) }
 {
-    let body = body.boxed(alloc)?;
-    Ok(Statement::While {
+    Statement::While {
         at,
         condition,
         body,
-    })
+    }
 }
 
 /// `do body while ( condition ) ;`
 #[tactic(auto, using(c_tree::proofs::SyntaxViews::statement_views))]
-pub fn do_while(
-    alloc: Global,
-    at: At,
-    body: Statement,
-    condition: Expression,
-) -> Result<Statement, AllocError>
-    ensures { IfOk result (λ x. statement_tree x ≡ StatementTree.DoWhile at (statement_tree body) (expression_tree condition)) }
+pub fn do_while(at: At, body: Box<Statement>, condition: Expression) -> Statement
+    ensures { statement_tree result ≡ StatementTree.DoWhile at (statement_tree body.value) (expression_tree condition) }
 {
-    let body = body.boxed(alloc)?;
-    Ok(Statement::DoWhile {
+    Statement::DoWhile {
         at,
         body,
         condition,
-    })
+    }
 }
 
 /// `for ( start condition ; step ) body`
 #[tactic(auto, using(c_tree::proofs::SyntaxViews::statement_views))]
 pub fn for_loop(
-    alloc: Global,
     at: At,
     start: ForStart,
     condition: Option<Expression>,
     step: Option<Expression>,
-    body: Statement,
-) -> Result<Statement, AllocError>
-    ensures { IfOk result (λ x. statement_tree x ≡ StatementTree.For at (for_start_tree start) (option_map expression_tree condition) (option_map expression_tree step) (statement_tree body)) }
+    body: Box<Statement>,
+) -> Statement
+    ensures { statement_tree result ≡ StatementTree.For at (for_start_tree start) (option_map expression_tree condition) (option_map expression_tree step) (statement_tree body.value) }
 {
-    let body = body.boxed(alloc)?;
-    Ok(Statement::For {
+    Statement::For {
         at,
         start,
         condition,
         step,
         body,
-    })
+    }
 }
 
 /// `break ;`

@@ -4,7 +4,7 @@ use Rattle.c_tree.specs.SyntaxViews.{expression_tree, statement_tree}
 use Rattle.c_tree.specs.Syntax.{StatementTree}
 use Rattle.c_parser.specs.Tests.{is_close_brace, is_else, begins_specifier}
 use Rattle.c_parser.specs.Bodies.{statement_by}
-use Rattle.c_parser.proofs.CodeSteps.{called, call_failed, took, take_failed, gave, when_yes, when_no, seen_as, saw_yes, saw_no}
+use Rattle.c_parser.proofs.CodeSteps.{called, call_failed, took, take_failed, gave, when_yes, when_no, seen_as, saw_yes, saw_no, failed_as, read_as}
 use Rattle.c_parser.proofs.Fewer.{mark_opened, shorter_by, item_moves}
 use Rattle.c_parser.proofs.Lists.{goes_stop, collected, items_more, items_end}
 use Rattle.c_parser.proofs.Further.{no_close_brace, no_else, not_compound, do_body, do_deep, do_nothing, opens_not, opens_yes}
@@ -44,6 +44,17 @@ statement-returns-then-sees_word-4 t c =
 pub statement-simple-requires-clause-simple : goal.statement-simple-requires-clause-simple
 statement-simple-requires-clause-simple t c = not_compound _ (saw_no c.sees.ensures c.if-sees.false) (saw_no c.sees_word.ensures c.if-sees_word.false) (saw_no c.sees_word-2.ensures c.if-sees_word-2.false)
     (saw_no c.sees_word-3.ensures c.if-sees_word-3.false) (saw_no c.sees_word-4.ensures c.if-sees_word-4.false)
+
+pub inner-returns-in_err-statement : goal.inner-returns-in_err-statement
+inner-returns-in_err-statement t c =
+    let p = err_from_is_err_and c.from_residual.result c.from_residual.ensures.1 in
+    rw (p.1, p.2) (failed_as c.in_err-statement.ensures)
+
+pub inner-returns : goal.inner-returns
+inner-returns t c = read_as c.in_ok-statement.ensures (ap (λ z. (statement_tree z, c.in_ok-statement.is_open)) c.in_ok-statement-2.ensures)
+
+pub inner-statement-requires : goal.inner-statement-requires
+inner-statement-requires t c = (omega arith, omega arith)
 
 pub if_statement-returns-in_err-at : goal.if_statement-returns-in_err-at
 if_statement-returns-in_err-at t c =
@@ -99,7 +110,7 @@ while_statement-returns-in_err-body t c =
     rw (p.1, p.2) (took c.in_ok-at.ensures (took c.in_ok-take_mark.ensures (called (rw add-one at c.in_ok-condition.ensures) (took c.in_ok-take_mark-2.ensures (call_failed (rw add-one at c.in_err-body.ensures))))))
 
 pub while_statement-returns : goal.while_statement-returns
-while_statement-returns t c = took c.in_ok-at.ensures (took c.in_ok-take_mark.ensures (called (rw add-one at c.in_ok-condition.ensures) (took c.in_ok-take_mark-2.ensures (called (rw add-one at c.in_ok-body.ensures) (gave (ap (λ z. (z, c.in_ok-body.is_open)) (c.in_ok-statement.ensures ∙ ap (λ z. StatementTree.While c.in_ok-at.at (expression_tree z) (statement_tree c.in_ok-body.body)) c.into_expression.ensures)))))))
+while_statement-returns t c = took c.in_ok-at.ensures (took c.in_ok-take_mark.ensures (called (rw add-one at c.in_ok-condition.ensures) (took c.in_ok-take_mark-2.ensures (called (rw add-one at c.in_ok-body.ensures) (gave (ap (λ z. (z, c.in_ok-body.is_open)) (c.while_loop.ensures ∙ ap (λ z. StatementTree.While c.in_ok-at.at (expression_tree z) (statement_tree c.in_ok-body.body.value)) c.into_expression.ensures)))))))
 
 pub for_statement-returns-in_err-at : goal.for_statement-returns-in_err-at
 for_statement-returns-in_err-at t c =
@@ -142,17 +153,17 @@ for_statement-returns-in_err-body t c =
     rw (p.1, p.2) (took c.in_ok-at.ensures (took c.in_ok-take_mark.ensures (called (rw add-one at c.in_ok-start.ensures) (called (rw add-one at c.in_ok-condition.ensures) (took c.in_ok-take_mark-2.ensures (called (rw add-one at c.in_ok-step.ensures) (took c.in_ok-take_mark-3.ensures (call_failed (rw add-one at c.in_err-body.ensures)))))))))
 
 pub for_statement-returns : goal.for_statement-returns
-for_statement-returns t c = took c.in_ok-at.ensures (took c.in_ok-take_mark.ensures (called (rw add-one at c.in_ok-start.ensures) (called (rw add-one at c.in_ok-condition.ensures) (took c.in_ok-take_mark-2.ensures (called (rw add-one at c.in_ok-step.ensures) (took c.in_ok-take_mark-3.ensures (called (rw add-one at c.in_ok-body.ensures) (gave (ap (λ z. (z, c.in_ok-body.is_open)) c.in_ok-statement.ensures)))))))))
+for_statement-returns t c = took c.in_ok-at.ensures (took c.in_ok-take_mark.ensures (called (rw add-one at c.in_ok-start.ensures) (called (rw add-one at c.in_ok-condition.ensures) (took c.in_ok-take_mark-2.ensures (called (rw add-one at c.in_ok-step.ensures) (took c.in_ok-take_mark-3.ensures (called (rw add-one at c.in_ok-body.ensures) (gave (ap (λ z. (z, c.in_ok-body.is_open)) c.for_loop.ensures)))))))))
 
 pub otherwise-returns-then-is_open : goal.otherwise-returns-then-is_open
-otherwise-returns-then-is_open t c = rw c.if-is_open.true (gave (ap (λ z. (z, true)) c.in_ok-statement.ensures))
+otherwise-returns-then-is_open t c = rw c.if-is_open.true (gave (ap (λ z. (z, true)) c.only_if.ensures))
 
 pub otherwise-returns-then-not-sees_word : goal.otherwise-returns-then-not-sees_word
-otherwise-returns-then-not-sees_word t c = rw c.if-is_open.false (when_no is_else _ _ (no_else _ (saw_no c.sees_word.ensures c.if-not-sees_word.true)) (gave (ap (λ z. (z, true)) c.in_ok-statement-2.ensures)))
+otherwise-returns-then-not-sees_word t c = rw c.if-is_open.false (when_no is_else _ _ (no_else _ (saw_no c.sees_word.ensures c.if-not-sees_word.true)) (gave (ap (λ z. (z, true)) c.only_if-then-not-sees_word.ensures)))
 
 pub otherwise-returns-in_err-take_word : goal.otherwise-returns-in_err-take_word
 otherwise-returns-in_err-take_word t c =
-    let p = err_from_is_err_and c.from_residual-in_err-take_word.result c.from_residual-in_err-take_word.ensures.1 in
+    let p = err_from_is_err_and c.from_residual.result c.from_residual.ensures.1 in
     rw (p.1, p.2) (rw c.if-is_open.false (when_yes is_else _ _ (ap is_else (saw_yes c.sees_word.ensures c.if-not-sees_word.false)) (take_failed c.in_err-take_word.ensures)))
 
 pub otherwise-returns-in_err-other : goal.otherwise-returns-in_err-other
@@ -161,7 +172,7 @@ otherwise-returns-in_err-other t c =
     rw (p.1, p.2) (rw c.if-is_open.false (when_yes is_else _ _ (ap is_else (saw_yes c.sees_word.ensures c.if-not-sees_word.false)) (took c.in_ok-take_word.ensures (call_failed (rw add-one at c.in_err-other.ensures)))))
 
 pub otherwise-returns : goal.otherwise-returns
-otherwise-returns t c = rw c.if-is_open.false (when_yes is_else _ _ (ap is_else (saw_yes c.sees_word.ensures c.if-not-sees_word.false)) (took c.in_ok-take_word.ensures (called (rw add-one at c.in_ok-other.ensures) (gave (ap (λ z. (z, c.in_ok-other.is_open)) c.in_ok-statement-3.ensures)))))
+otherwise-returns t c = rw c.if-is_open.false (when_yes is_else _ _ (ap is_else (saw_yes c.sees_word.ensures c.if-not-sees_word.false)) (took c.in_ok-take_word.ensures (called (rw add-one at c.in_ok-other.ensures) (gave (ap (λ z. (z, c.in_ok-other.is_open)) c.if_else.ensures)))))
 
 pub do_statement-returns-in_err-at : goal.do_statement-returns-in_err-at
 do_statement-returns-in_err-at t c =
@@ -205,7 +216,7 @@ do_statement-returns-in_err-take_mark-3 t c =
     rw (p.1, p.2) (took c.in_ok-at.ensures (do_body _ _ (sym c.sees_statement.ensures ∙ c.if-not-sees_statement.false) (opens_yes _ c.if-depth-ge-LEVELS.false) (called (rw add-one at c.in_ok-body.ensures) (took c.in_ok-take_word.ensures (took c.in_ok-take_mark.ensures (called (rw add-one at c.in_ok-condition.ensures) (took c.in_ok-take_mark-2.ensures (take_failed c.in_err-take_mark-3.ensures))))))))
 
 pub do_statement-returns : goal.do_statement-returns
-do_statement-returns t c = took c.in_ok-at.ensures (do_body _ _ (sym c.sees_statement.ensures ∙ c.if-not-sees_statement.false) (opens_yes _ c.if-depth-ge-LEVELS.false) (called (rw add-one at c.in_ok-body.ensures) (took c.in_ok-take_word.ensures (took c.in_ok-take_mark.ensures (called (rw add-one at c.in_ok-condition.ensures) (took c.in_ok-take_mark-2.ensures (took c.in_ok-take_mark-3.ensures (gave (ap (λ z. (z, false)) (c.in_ok-statement.ensures ∙ ap (λ z. StatementTree.DoWhile c.in_ok-at.at (statement_tree c.in_ok-body.body) (expression_tree z)) c.into_expression.ensures))))))))))
+do_statement-returns t c = took c.in_ok-at.ensures (do_body _ _ (sym c.sees_statement.ensures ∙ c.if-not-sees_statement.false) (opens_yes _ c.if-depth-ge-LEVELS.false) (called (rw add-one at c.in_ok-body.ensures) (took c.in_ok-take_word.ensures (took c.in_ok-take_mark.ensures (called (rw add-one at c.in_ok-condition.ensures) (took c.in_ok-take_mark-2.ensures (took c.in_ok-take_mark-3.ensures (gave (ap (λ z. (z, false)) (c.do_while.ensures ∙ ap (λ z. StatementTree.DoWhile c.in_ok-at.at (statement_tree c.in_ok-body.body.value) (expression_tree z)) c.into_expression.ensures))))))))))
 
 pub block-returns-in_err-at : goal.block-returns-in_err-at
 block-returns-in_err-at t c =
@@ -277,23 +288,23 @@ statement-for_statement-requires t c = (omega arith, omega arith)
 pub if_statement-expression-requires : goal.if_statement-expression-requires
 if_statement-expression-requires t c = omega (arith, mark_opened {d = c.args.depth} c.in_ok-take_mark.ensures)
 
-pub if_statement-statement-requires : goal.if_statement-statement-requires
-if_statement-statement-requires t c = (omega (arith, mark_opened {d = c.args.depth} c.in_ok-take_mark.ensures), omega (arith, mark_opened {d = c.args.depth} c.in_ok-take_mark.ensures))
+pub if_statement-inner-requires : goal.if_statement-inner-requires
+if_statement-inner-requires t c = (omega (arith, mark_opened {d = c.args.depth} c.in_ok-take_mark.ensures), omega (arith, mark_opened {d = c.args.depth} c.in_ok-take_mark.ensures))
 
 pub if_statement-otherwise-requires : goal.if_statement-otherwise-requires
 if_statement-otherwise-requires t c = (omega (arith, mark_opened {d = c.args.depth} c.in_ok-take_mark.ensures), omega (arith, mark_opened {d = c.args.depth} c.in_ok-take_mark.ensures))
 
-pub otherwise-statement-requires : goal.otherwise-statement-requires
-otherwise-statement-requires t c = (omega arith, omega arith)
+pub otherwise-inner-requires : goal.otherwise-inner-requires
+otherwise-inner-requires t c = (omega arith, omega arith)
 
 pub while_statement-expression-requires : goal.while_statement-expression-requires
 while_statement-expression-requires t c = omega (arith, mark_opened {d = c.args.depth} c.in_ok-take_mark.ensures)
 
-pub while_statement-statement-requires : goal.while_statement-statement-requires
-while_statement-statement-requires t c = (omega (arith, mark_opened {d = c.args.depth} c.in_ok-take_mark.ensures), omega (arith, mark_opened {d = c.args.depth} c.in_ok-take_mark.ensures))
+pub while_statement-inner-requires : goal.while_statement-inner-requires
+while_statement-inner-requires t c = (omega (arith, mark_opened {d = c.args.depth} c.in_ok-take_mark.ensures), omega (arith, mark_opened {d = c.args.depth} c.in_ok-take_mark.ensures))
 
-pub do_statement-statement-requires : goal.do_statement-statement-requires
-do_statement-statement-requires t c = (omega (arith, c.if-depth-ge-LEVELS.false), omega (arith, c.if-depth-ge-LEVELS.false))
+pub do_statement-inner-requires : goal.do_statement-inner-requires
+do_statement-inner-requires t c = (omega (arith, c.if-depth-ge-LEVELS.false), omega (arith, c.if-depth-ge-LEVELS.false))
 
 pub do_statement-expression-requires : goal.do_statement-expression-requires
 do_statement-expression-requires t c = omega (arith, c.if-depth-ge-LEVELS.false)
@@ -307,8 +318,8 @@ for_statement-optional_value-requires t c = omega (arith, mark_opened {d = c.arg
 pub for_statement-optional_step-requires : goal.for_statement-optional_step-requires
 for_statement-optional_step-requires t c = omega (arith, mark_opened {d = c.args.depth} c.in_ok-take_mark.ensures)
 
-pub for_statement-statement-requires : goal.for_statement-statement-requires
-for_statement-statement-requires t c = (omega (arith, mark_opened {d = c.args.depth} c.in_ok-take_mark.ensures), omega (arith, mark_opened {d = c.args.depth} c.in_ok-take_mark.ensures))
+pub for_statement-inner-requires : goal.for_statement-inner-requires
+for_statement-inner-requires t c = (omega (arith, mark_opened {d = c.args.depth} c.in_ok-take_mark.ensures), omega (arith, mark_opened {d = c.args.depth} c.in_ok-take_mark.ensures))
 
 pub block-items-requires : goal.block-items-requires
 block-items-requires t c = (omega (arith, mark_opened {d = c.args.depth} c.in_ok-at.ensures), omega (arith, mark_opened {d = c.args.depth} c.in_ok-at.ensures))

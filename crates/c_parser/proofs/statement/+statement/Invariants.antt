@@ -11,6 +11,9 @@ use Rattle.c_parser.proofs.statement.+statement.Given as goal
 abbrev pub decreases-statement : goal.decreases-statement
 decreases-statement l = 5 * (200 - l.depth) + 2
 
+abbrev pub decreases-inner : goal.decreases-inner
+decreases-inner l = 5 * (200 - l.depth) + 3
+
 abbrev pub decreases-if_statement : goal.decreases-if_statement
 decreases-if_statement l = 5 * (200 - l.depth) + 1
 
