@@ -38,7 +38,7 @@ fn status_on(
 }
 
 // The status of a call, where `f.c` has this text, if it notes just this.
-fn status(
+pub(crate) fn status(
     alloc: Global,
     words: &[&str],
     text: &[u8],
@@ -310,7 +310,7 @@ const ECHO: &str = "int main(void) { int c; while ((c = getchar()) != EOF) putch
 const GCD: &str =
     "int read(void) { int n = 0; int c; while ((c = getchar()) >= '0' && c <= '9') n = n * 10 + c - '0'; return n; }
 void print(int n) { if (n >= 10) print(n / 10); putchar('0' + n % 10); }
-int main(void) { int a = read(); int b = read(); while (b != 0) { int r = a % b; a = b; b = r; } print(a); putchar('\n'); return 0; }";
+int main(void) { int a = read(); int b = read(); while (b != 0) { int r = a % b; a = b; b = r; } print(a); putchar('\\n'); return 0; }";
 
 #[test]
 fn programs_talk(rt: HostRuntime) -> Result<(), Fail> {
