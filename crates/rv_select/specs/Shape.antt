@@ -67,8 +67,8 @@ pub record IsWordOf (test : Instr → Bool) (word : ℕ) : Type 0 where
   pub is : instruction_of word ≡ Some instr
   pub passes : test instr ≡ true
 
--- Each word of a text leaves the spare registers alone. Where every jump of the text is within the reach of JAL, each is
--- regular too.
+-- Each word of a text leaves the spare registers alone. In a text of at most 1,000,000 bytes, where JAL reaches every place,
+-- each is regular too.
 pub record HasShape (text : List ℕ) : Type 0 where
   pub spare : All (IsWordOf leaves_spare) text
   pub regular : 4 * length text ≤ 1000000 → All (IsWordOf is_regular) text
