@@ -36,6 +36,12 @@ Compiles text (Err compile.Memory) = Unit {0}
 Compiles text (Err (compile.Lower lower.NotBuilt)) = IsNotBuilt text
 Compiles text (Err error) = Refuses text error
 
+-- the text has an image, unless memory was wanting
+abbrev pub IsAnswered : Result Image CompileError → Type 0
+IsAnswered (Ok image) = Unit {0}
+IsAnswered (Err compile.Memory) = Unit {0}
+IsAnswered (Err error) = ⊥
+
 -- ---- From mid code on
 
 -- The text of the image is what the parts selected for the program's flat code resolve to. It has no global objects, and as
