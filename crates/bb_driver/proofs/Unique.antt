@@ -1,5 +1,5 @@
 -- A text has one program at most, and one that is accepted is not refused.
-use Rattle.std.proofs.Common.{◌≡◌, ℕ, ◌<◌, ◌≤◌, List, refl, sym, ap, ◌∙◌, subst, arith}
+use Rattle.std.proofs.Common.{◌≡◌, ℕ, ◌≤◌, List, sym, ap, ◌∙◌, subst, arith}
 use Rattle.std.specs.Prelude.{All, Bool, true, false, Some, Result, Ok, Err, slice_get}
 use Rattle.std.proofs.lemmas.Bool.{true≢false}
 use Rattle.std.proofs.lemmas.Option.{get_or_from_slice_get, slice_get_within}
@@ -8,11 +8,11 @@ use Rattle.c_lexer.specs.declared.fault.LexError.{LexError}
 use Rattle.c_tree.specs.Syntax.{UnitTree}
 use Rattle.c_tree.specs.Grammar.{Derives}
 use Rattle.c_tree.specs.GrammarLimits.{within_limits}
-use Rattle.c_tree.specs.GrammarRefusals.{Refusal, IsRefused, IsNotRefused}
+use Rattle.c_tree.specs.GrammarRefusals.{Refusal, IsNotRefused}
 use Rattle.c_parser.specs.Laws.{HasOneUnit}
 use Rattle.c_parser.specs.declared.parser.ParseError.TheVariants as parse
 use Rattle.c_typed.specs.TypedTree.{CProgram, CFunction}
-use Rattle.c_typed.specs.Counts.{values_of, nodes_of_program}
+use Rattle.c_typed.specs.Counts.{values_of}
 use Rattle.c_typing.specs.Units.{typed_unit}
 use Rattle.lowering.specs.declared.error.LowerError.{LowerError}
 use Rattle.lowering.specs.declared.error.LowerError.TheVariants as lower

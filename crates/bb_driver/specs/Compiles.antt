@@ -1,5 +1,5 @@
 -- What compiling a text answers.
-use Rattle.std.specs.Prelude.{◌≡◌, ℕ, ◌≤◌, false, List, [], length, replicate, Result, Ok, Err}
+use Rattle.std.specs.Prelude.{◌≡◌, ℕ, false, List, [], length, replicate, Result, Ok, Err}
 use Rattle.c_typed.specs.TypedTree.{CProgram}
 use Rattle.injection.specs.Trail.{SafeSites}
 use Rattle.mid_code.specs.Code.{Program}

@@ -1,8 +1,7 @@
-use Rattle.std.proofs.Common.{◌≡◌, sym, subst}
+use Rattle.std.proofs.Common.{sym, subst}
 use Rattle.std.proofs.lemmas.Result.{err_from_is_err_and}
 use Rattle.c_typed.specs.TypedViews.{program_of}
 use Rattle.mid_code.specs.Formed.{Formed}
-use Rattle.mid_code.specs.Views as mid
 use Rattle.lowering.specs.Keeps.{Keeps}
 use Rattle.bounds_instr.specs.Built as instr
 use Rattle.bb_driver.specs.Compiles.{IsMade}
