@@ -392,7 +392,7 @@ const LAYERS: [(u32, &str, u8, &str); 6] = [
         247,
         "y +",
         124,
-        "baggy: refused Syntax token 1246 at line 1\n",
+        "baggy: refused Syntax token 1244 at line 1\n",
     ),
     (247, "y + @", 124, "baggy: refused BadByte at line 1\n"),
 ];
