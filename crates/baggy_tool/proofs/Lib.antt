@@ -3,3 +3,4 @@ pub mod Files
 pub mod Noting
 pub mod Answering
 pub mod CommandLine
+pub mod Complete

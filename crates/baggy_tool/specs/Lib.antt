@@ -6,3 +6,4 @@ pub mod Files
 pub mod Building
 pub mod Notes
 pub mod Calls
+pub mod Laws

@@ -5,6 +5,7 @@
 
 mod decimal;
 pub mod ending;
+pub mod laws;
 mod notes;
 mod reader;
 mod refusals;
