@@ -1,0 +1,15 @@
+pub mod Steps
+pub mod Operands
+pub mod Values
+pub mod FromBinary
+pub mod ToBinary
+pub mod FromUnary
+pub mod FromRest
+pub mod ToUnary
+pub mod ToRest
+pub mod MadeTypes
+pub mod Calls
+pub mod ToTyped
+pub mod FromTyped
+pub mod First
+pub mod Expressions

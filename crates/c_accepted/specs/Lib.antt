@@ -1,0 +1,3 @@
+pub mod AcceptanceOperands
+pub mod AcceptanceExpressions
+pub mod AcceptanceLaws

@@ -1,0 +1,32 @@
+//! The typing functions accept what the relation accepts.
+ghost use Rattle.c_accepted.specs.AcceptanceLaws.{ExpressionsAreTyped, ArgumentsAreTyped, TypeNamesAreTyped, ArgumentsFailAtFirst, ItemsFailAtFirst, FilesFailAtFirst};
+
+/// An expression is accepted as another where typing gives that one.
+pub fn expressions_are_typed()
+    ensures { ExpressionsAreTyped }
+{}
+
+/// The arguments of a call are accepted where typing gives them.
+pub fn arguments_are_typed()
+    ensures { ArgumentsAreTyped }
+{}
+
+/// A type name names a type where typing gives that type.
+pub fn type_names_are_typed()
+    ensures { TypeNamesAreTyped }
+{}
+
+/// The arguments of a call are refused where all before one are accepted and that one is refused.
+pub fn arguments_fail_at_first()
+    ensures { ArgumentsFailAtFirst }
+{}
+
+/// What stands in a block is refused where all before one part of it is accepted and that part is refused.
+pub fn items_fail_at_first()
+    ensures { ItemsFailAtFirst }
+{}
+
+/// The declarations of a file are refused where all before one are accepted and that one is refused.
+pub fn files_fail_at_first()
+    ensures { FilesFailAtFirst }
+{}
