@@ -1,6 +1,6 @@
 -- What the rules of casts, `?:`, `,`, assignments and calls give is what these operators make of what their operands
 -- become.
-use Rattle.std.proofs.Common.{◌≡◌, ℕ, Bool, true, false, ◌&&◌, ◌||◌, ◌⊎◌, inl, inr, List, [], ◌∷◌, refl, sym, subst}
+use Rattle.std.proofs.Common.{◌≡◌, ℕ, Bool, true, false, not, ◌&&◌, ◌||◌, ◌⊎◌, inl, inr, List, [], ◌∷◌, refl, sym, subst}
 use Rattle.std.specs.Prelude.{Option, Some, None, Ok, Err, if◌then◌else◌}
 use Rattle.c_words.specs.declared.place.At.{At}
 use Rattle.c_words.specs.declared.operators.AssignOperator.{AssignOperator}
@@ -155,17 +155,21 @@ set_one : (structs : List CStruct) (at : At) (op : AssignOperator) (x y b : CExp
 set_one structs at op x y b t v is becomes keeps =
     record { operand = b; type = t; becomes = becomes; keeps = keeps; is = sym (same_ok (CExpr.expr at t (CForm.Assign op x b)) v is) }
 
+pub copied_is : (line : ℕ) (t : CType) (y v : CExpr) → is_struct t ≡ true → copied_from line t y ≡ Ok v → IsCopied t y × (y ≡ v)
+unfolding copied_from
+copied_is line t y v struct is =
+    let first = passes _ _ _ v is in
+    let second = passes (not (is_place y && same (type_of y) t)) (BadType line 23) _ v first.1 in
+    let both : is_place y && same (type_of y) t ≡ true = not_false _ second.0 in
+    (record { struct = struct; place = and_left _ _ both; same_struct = same_is _ _ (and_right (is_place y) _ both) }, same_ok y v second.1)
+
 module _ (structs : List CStruct) (at : At) (x : CExpr) (assignable : IsAssignable x) (y : CExpr) (written : IsWritten y) where
   copied : (v : CExpr) → is_struct (type_of x) ≡ true → (copied_from at.line (type_of x) y >>= λ b. Ok (CExpr.expr at CType.Void (CForm.Assign assign.Assign x b))) ≡ Ok v → OfAssign structs at assign.Assign x y v
-  unfolding copied_from
   copied v struct is =
       let c = bound (copied_from at.line (type_of x) y) _ v is in
-      let first = passes _ _ _ c.0 c.1 in
-      let second = passes _ _ _ c.0 first.1 in
-      let both : is_place y && same (type_of y) (type_of x) ≡ true = not_false _ second.0 in
-      let b : y ≡ c.0 = same_ok y c.0 second.1 in
-      set_one structs at assign.Assign x y c.0 CType.Void v c.2 (subst (λ e. Becomes y e) b Becomes.itself)
-        (IsSet.struct assignable (subst (λ e. IsCopied (type_of x) e) b (record { struct = struct; place = and_left _ _ both; same_struct = same_is _ _ (and_right (is_place y) _ both) })) refl)
+      let h = copied_is at.line (type_of x) y c.0 struct c.1 in
+      set_one structs at assign.Assign x y c.0 CType.Void v c.2 (subst (λ e. Becomes y e) h.1 Becomes.itself)
+        (IsSet.struct assignable (subst (λ e. IsCopied (type_of x) e) h.1 h.0) refl)
 
   given_to_left : (v : CExpr) → (given at.line (type_of x) y >>= λ b. Ok (CExpr.expr at (type_of x) (CForm.Assign assign.Assign x b))) ≡ Ok v → OfAssign structs at assign.Assign x y v
   given_to_left v is =

@@ -12,4 +12,13 @@ pub mod Calls
 pub mod ToTyped
 pub mod FromTyped
 pub mod First
-pub mod Expressions
+pub mod Same
+pub mod ToDeclarators
+pub mod FromDeclarators
+pub mod ToInitials
+pub mod FromInitials
+pub mod ToStatements
+pub mod FromStatements
+pub mod Agreement
+pub mod ToFiles
+pub mod FromFiles

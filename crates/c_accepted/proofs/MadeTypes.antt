@@ -6,7 +6,9 @@ use Rattle.c_typed.specs.Types.{CType}
 use Rattle.c_typed.specs.TypedTree.{CStruct}
 use Rattle.c_typed.specs.Sizes.{size_of, largest, is_complete, IsComplete}
 use Rattle.c_rules.specs.declared.error.TypeError.TheVariants.{BadType}
-use Rattle.c_types.specs.Parts.{CPart, is_array_part, begins_with_array, has_function, lacks_size, array_of, made, formed}
+use Rattle.c_types.specs.Parts.{CPart, is_array_part, begins_with_array, is_incomplete, has_function, lacks_size, array_of, made, formed}
+use Rattle.c_types.specs.Declarators.{has_many_params, object_type}
+use Rattle.c_accepted.specs.AcceptanceDeclarators.{MakesObject}
 use Rattle.c_accepted.specs.AcceptanceOperands.{Makes}
 use Rattle.c_accepted.proofs.Steps.{passes, passed, bound, onward, same_ok, not_less, no_less, no_left, no_right, not_of}
 
@@ -64,6 +66,14 @@ has_sizes (CPart.Array (Some n) ∷ ps) sized = has_sizes ps sized.1
 has_sizes (CPart.Unsized ∷ ps) sized = absurd sized.0
 has_sizes (CPart.Function params ∷ ps) sized = absurd sized.0
 
+no_params : (ps : List CPart) → AreSized ps → has_many_params ps ≡ false
+no_params [] sized = refl
+no_params (CPart.Pointer ∷ ps) sized = no_params ps sized.1
+no_params (CPart.Array None ∷ ps) sized = absurd sized.0
+no_params (CPart.Array (Some n) ∷ ps) sized = no_params ps sized.1
+no_params (CPart.Unsized ∷ ps) sized = absurd sized.0
+no_params (CPart.Function params ∷ ps) sized = absurd sized.0
+
 module _ (structs : List CStruct) where
   makes_sized : (t u : CType) (ps : List CPart) → Makes structs t ps u → AreSized ps
   makes_sized t u ps Makes.done = tt
@@ -98,18 +108,36 @@ module _ (structs : List CStruct) where
   enough true base t ps is first = object_complete base t ps is.made (is.complete refl) first
   enough false base t ps is first = first_complete base t ps is.made first
 
-  pub formed_to : (line : ℕ) (is_object : Bool) (base t : CType) (ps : List CPart) → MakesWhole is_object base (reverse ps) t → formed structs line is_object base ps ≡ Ok t
-  unfolding formed
-  formed_to line is_object base t ps is =
-      let sized = sized_back ps (makes_sized base t (reverse ps) is.made) in
-      passed _ _ _ _ (by (begins_with_array is_object ps) refl)
-        (passed _ _ _ _ (no_function ps sized) (passed _ _ _ _ (has_sizes ps sized) (made_to line base t (reverse ps) is.made)))
+  -- what the rules test of the steps, and what they make
+  pub record PassTests (line : ℕ) (is_object : Bool) (base : CType) (ps : List CPart) (t : CType) : Type 0 where
+    pub complete : is_incomplete structs is_object base ps ≡ false
+    pub no_function : has_function ps ≡ false
+    pub sized : lacks_size ps ≡ false
+    pub few : has_many_params ps ≡ false
+    pub made : made structs line base (reverse ps) ≡ Ok t
+
+  pub tests_of : (line : ℕ) (is_object : Bool) (base t : CType) (ps : List CPart) → MakesWhole is_object base (reverse ps) t → PassTests line is_object base ps t
+  tests_of line is_object base t ps is =
+      let are = sized_back ps (makes_sized base t (reverse ps) is.made) in
+      record {
+        complete = by (begins_with_array is_object ps) refl;
+        no_function = no_function ps are;
+        sized = has_sizes ps are;
+        few = no_params ps are;
+        made = made_to line base t (reverse ps) is.made;
+      }
     where
       by : (b : Bool) → begins_with_array is_object ps ≡ b → begins_with_array is_object ps && not (is_complete structs base) ≡ false
       by false none = no_left (begins_with_array is_object ps) _ none
       by true some =
           let complete = enough is_object base t (reverse ps) is (sym (from_specifier is_object ps) ∙ some) in
           no_right (begins_with_array is_object ps) _ (not_of _ complete)
+
+  pub formed_to : (line : ℕ) (is_object : Bool) (base t : CType) (ps : List CPart) → MakesWhole is_object base (reverse ps) t → formed structs line is_object base ps ≡ Ok t
+  unfolding formed
+  formed_to line is_object base t ps is =
+      let tests = tests_of line is_object base t ps is in
+      passed _ _ _ _ tests.complete (passed _ _ _ _ tests.no_function (passed _ _ _ _ tests.sized tests.made))
 
   array_from : (line : ℕ) (t u : CType) (n : ℕ) → array_of structs line t n ≡ Ok u → (nat_lt largest (size_of structs t * n) ≡ false) × (CType.Array t n ≡ u)
   unfolding array_of
@@ -134,14 +162,10 @@ module _ (structs : List CStruct) where
   whole_complete t u ps first (Makes.pointer m) = whole_complete _ _ _ (λ h. refl) m
   whole_complete t u ps first (Makes.array complete small m) = whole_complete _ _ _ (λ h. complete) m
 
-  pub formed_from : (line : ℕ) (is_object : Bool) (base t : CType) (ps : List CPart) → formed structs line is_object base ps ≡ Ok t → MakesWhole is_object base (reverse ps) t
-  unfolding formed
-  formed_from line is_object base t ps is =
-      let a = passes _ _ _ t is in
-      let b = passes (has_function ps) (BadType line 2) _ t a.1 in
-      let c = passes (lacks_size ps) (BadType line 3) _ t b.1 in
-      let first : (first_is_array is_object (reverse ps) ≡ true → is_complete structs base ≡ true) = λ h. sure (begins_with_array is_object ps) (is_complete structs base) (from_specifier is_object ps ∙ h) a.0 in
-      let makes = made_from line base t (reverse ps) (λ h. first (weaker is_object (reverse ps) h)) c.1 in
+  pub whole_of : (line : ℕ) (is_object : Bool) (base t : CType) (ps : List CPart) → is_incomplete structs is_object base ps ≡ false → made structs line base (reverse ps) ≡ Ok t → MakesWhole is_object base (reverse ps) t
+  whole_of line is_object base t ps complete is =
+      let first : (first_is_array is_object (reverse ps) ≡ true → is_complete structs base ≡ true) = λ h. sure (begins_with_array is_object ps) (is_complete structs base) (from_specifier is_object ps ∙ h) complete in
+      let makes = made_from line base t (reverse ps) (λ h. first (weaker is_object (reverse ps) h)) is in
       record { made = makes; complete = λ object. whole_complete base t (reverse ps) (λ h. first (subst (λ o. first_is_array o (reverse ps) ≡ true) (sym object) h)) makes }
     where
       sure : (b c : Bool) → b ≡ true → b && not c ≡ false → c ≡ true
@@ -152,3 +176,28 @@ module _ (structs : List CStruct) where
       weaker : (o : Bool) (qs : List CPart) → first_is_array false qs ≡ true → first_is_array o qs ≡ true
       weaker o [] h = absurd cc
       weaker o (q ∷ qs) h = h
+
+  pub formed_from : (line : ℕ) (is_object : Bool) (base t : CType) (ps : List CPart) → formed structs line is_object base ps ≡ Ok t → MakesWhole is_object base (reverse ps) t
+  unfolding formed
+  formed_from line is_object base t ps is =
+      let a = passes _ _ _ t is in
+      let b = passes (has_function ps) (BadType line 2) _ t a.1 in
+      let c = passes (lacks_size ps) (BadType line 3) _ t b.1 in
+      whole_of line is_object base t ps a.0 c.1
+
+  -- the types of objects
+
+  pub object_whole : (base t : CType) (ps : List CPart) → MakesObject structs base ps t → MakesWhole true base (reverse ps) t
+  object_whole base t ps is = record { made = is.made; complete = λ h. is.complete }
+
+  pub object_formed : (line : ℕ) (base t : CType) (ps : List CPart) → MakesObject structs base ps t → formed structs line true base ps ≡ Ok t
+  object_formed line base t ps is = formed_to line true base t ps (object_whole base t ps is)
+
+  pub formed_object : (line : ℕ) (base t : CType) (ps : List CPart) → formed structs line true base ps ≡ Ok t → MakesObject structs base ps t
+  formed_object line base t ps is = let whole = formed_from line true base t ps is in record { made = whole.made; complete = whole.complete refl }
+
+  pub object_to : (line : ℕ) (base t : CType) (ps : List CPart) → MakesObject structs base ps t → object_type structs line base ps ≡ Ok t
+  object_to line base t ps is = passed _ _ _ _ (tests_of line true base t ps (object_whole base t ps is)).few (object_formed line base t ps is)
+
+  pub object_is : (line : ℕ) (base t : CType) (ps : List CPart) → object_type structs line base ps ≡ Ok t → MakesObject structs base ps t
+  object_is line base t ps is = formed_object line base t ps (passes (has_many_params ps) _ _ t is).1

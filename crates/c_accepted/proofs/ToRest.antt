@@ -9,7 +9,7 @@ use Rattle.c_typed.specs.declared.typed_expr.Called.{Called}
 use Rattle.c_typed.specs.Types.{CType, is_number, is_pointer, is_struct, common, IsNumber, IsScalar}
 use Rattle.c_typed.specs.TypedTree.{CExpr, CForm, CExprs, CStruct, type_of}
 use Rattle.c_typed.specs.TypedViews.{exprs}
-use Rattle.c_typed.specs.TypedOperands.{is_place, is_null, IsGiven, own_type}
+use Rattle.c_typed.specs.TypedOperands.{is_null, IsGiven, own_type}
 use Rattle.c_typed.specs.TypedRules.{IsCondition, AreAlternatives, IsCopied, IsSet, IsReckoned, IsChanged, IsShiftedIn, IsAssignable, IsAssignment, AreInTurn, MayCast, IsCast, AreGiven}
 use Rattle.c_rules.specs.Rule.{Rule}
 use Rattle.c_rules.specs.Conversions.{decayed, as_number, as_pointer, may_point, given, is_void}
@@ -90,36 +90,38 @@ given_to line t x v read becomes is = by (or_cases (is_number t) (is_pointer t) 
 
 -- assignments
 
+struct_value : (u : CType) → is_struct u ≡ true → is_void u ≡ false
+struct_value (CType.Struct k) h = refl
+struct_value CType.Void h = absurd cc
+struct_value CType.Char h = refl
+struct_value CType.Int h = refl
+struct_value CType.Unsigned h = refl
+struct_value (CType.Pointer u) h = refl
+struct_value (CType.Array u n) h = refl
+
+pub struct_flat : (u : CType) → IsScalar u → is_struct u ≡ false
+struct_flat (CType.Struct k) h = absurd cc
+struct_flat CType.Void h = refl
+struct_flat CType.Char h = refl
+struct_flat CType.Int h = refl
+struct_flat CType.Unsigned h = refl
+struct_flat (CType.Pointer u) h = refl
+struct_flat (CType.Array u n) h = refl
+
+pub copied_self : (line : ℕ) (t : CType) (y : CExpr) → IsCopied t y → copied_from line t y ≡ Ok y
+unfolding copied_from
+copied_self line t y is =
+    let void : is_void (type_of y) ≡ false = struct_value (type_of y) (subst (λ u. is_struct u ≡ true) (sym is.same_struct) is.struct) in
+    steps.passed _ _ _ _ void (steps.passed _ _ _ _ (not_of _ (both_true _ _ is.place (same_of _ _ is.same_struct))) refl)
+
 module _ (structs : List CStruct) (at : At) (x y b : CExpr) (t : CType) (x_read : IsRead x) (y_read : IsRead y) (right : Becomes y b) where
   ok_set : (op : AssignOperator) (u : CType) (q : CExpr) → t ≡ u → b ≡ q → (let r : Rule CExpr = Ok (CExpr.expr at u (CForm.Assign op x q)) in r) ≡ Ok (CExpr.expr at t (CForm.Assign op x b))
   ok_set op u q type second = rw (type, second) refl
 
-  struct_flat : (u : CType) → IsScalar u → is_struct u ≡ false
-  struct_flat (CType.Struct k) h = absurd cc
-  struct_flat CType.Void h = refl
-  struct_flat CType.Char h = refl
-  struct_flat CType.Int h = refl
-  struct_flat CType.Unsigned h = refl
-  struct_flat (CType.Pointer u) h = refl
-  struct_flat (CType.Array u n) h = refl
-
-  struct_value : (u : CType) → is_struct u ≡ true → is_void u ≡ false
-  struct_value (CType.Struct k) h = refl
-  struct_value CType.Void h = absurd cc
-  struct_value CType.Char h = refl
-  struct_value CType.Int h = refl
-  struct_value CType.Unsigned h = refl
-  struct_value (CType.Pointer u) h = refl
-  struct_value (CType.Array u n) h = refl
-
   copied_to : IsCopied (type_of x) b → copied_from at.line (type_of x) y ≡ Ok b
-  unfolding copied_from
   copied_to is =
       let self = place_is y b right is.place in
-      let one : type_of y ≡ type_of x = ap type_of (sym self) ∙ is.same_struct in
-      let place : is_place y ≡ true = subst (λ e. is_place e ≡ true) self is.place in
-      let void : is_void (type_of y) ≡ false = struct_value (type_of y) (subst (λ u. is_struct u ≡ true) (sym one) is.struct) in
-      steps.passed _ _ _ _ void (steps.passed _ _ _ _ (not_of _ (both_true _ _ place (same_of _ _ one))) (ap Ok (sym self)))
+      copied_self at.line (type_of x) y (subst (λ e. IsCopied (type_of x) e) self is) ∙ ap Ok (sym self)
 
   set_to_it : IsSet x b t → set_to at x y ≡ Ok (CExpr.expr at t (CForm.Assign assign.Assign x b))
   set_to_it (IsSet.scalar assignable is result) =

@@ -75,7 +75,7 @@ past_pointers ps qs n = append_assoc ps qs (replicate n CPart.Pointer)
 pub past_both : (ps qs rs : List CPart) (n : ℕ) → pointed ((ps ++ qs) ++ rs) n ≡ ps ++ pointed (qs ++ rs) n
 past_both ps qs rs n = ap (λ l. pointed l n) (append_assoc ps qs rs) ∙ past_pointers ps (qs ++ rs) n
 
-pair_is : {A : Type 0} (x y : A) (u : CScene) → x ≡ y → (let r : Rule (A × CScene) = Ok (x, u) in r) ≡ Ok (y, u)
+pub pair_is : {A : Type 0} (x y : A) (u : CScene) → x ≡ y → (let r : Rule (A × CScene) = Ok (x, u) in r) ≡ Ok (y, u)
 pair_is x y u is = rw is refl
 
 mutual

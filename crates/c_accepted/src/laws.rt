@@ -1,5 +1,5 @@
 //! The typing functions accept what the relation accepts.
-ghost use Rattle.c_accepted.specs.AcceptanceLaws.{ExpressionsAreTyped, ArgumentsAreTyped, TypeNamesAreTyped, ArgumentsFailAtFirst, ItemsFailAtFirst, FilesFailAtFirst};
+ghost use Rattle.c_accepted.specs.AcceptanceLaws.{ExpressionsAreTyped, ArgumentsAreTyped, TypeNamesAreTyped, StructsAreTyped, InitializersAreTyped, StatementsAreTyped, ExternalsAreTyped, AcceptedIsTyped, ArgumentsFailAtFirst, ItemsFailAtFirst, FilesFailAtFirst};
 
 /// An expression is accepted as another where typing gives that one.
 pub fn expressions_are_typed()
@@ -14,6 +14,31 @@ pub fn arguments_are_typed()
 /// A type name names a type where typing gives that type.
 pub fn type_names_are_typed()
     ensures { TypeNamesAreTyped }
+{}
+
+/// The definition of a struct is accepted where typing gives its number.
+pub fn structs_are_typed()
+    ensures { StructsAreTyped }
+{}
+
+/// The initializer of a declared object is accepted as a typed one where typing gives that one.
+pub fn initializers_are_typed()
+    ensures { InitializersAreTyped }
+{}
+
+/// A statement is accepted as a typed one where typing gives that one.
+pub fn statements_are_typed()
+    ensures { StatementsAreTyped }
+{}
+
+/// A declaration or a definition of a file is accepted where typing gives the file behind it.
+pub fn externals_are_typed()
+    ensures { ExternalsAreTyped }
+{}
+
+/// A file is accepted as a program exactly where typing gives that program.
+pub fn accepted_is_typed()
+    ensures { AcceptedIsTyped }
 {}
 
 /// The arguments of a call are refused where all before one are accepted and that one is refused.

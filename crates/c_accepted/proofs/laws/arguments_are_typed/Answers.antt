@@ -1,4 +1,4 @@
-use Rattle.c_accepted.proofs.Expressions.{arguments_are_typed}
+use Rattle.c_accepted.proofs.Same.{arguments_are_typed}
 use Rattle.c_accepted.proofs.laws.arguments_are_typed.Goals as goal
 
 pub returns : goal.returns

@@ -1,4 +1,4 @@
-use Rattle.c_accepted.proofs.Expressions.{expressions_are_typed}
+use Rattle.c_accepted.proofs.Same.{expressions_are_typed}
 use Rattle.c_accepted.proofs.laws.expressions_are_typed.Goals as goal
 
 pub returns : goal.returns

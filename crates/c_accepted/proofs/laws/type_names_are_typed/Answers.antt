@@ -1,4 +1,4 @@
-use Rattle.c_accepted.proofs.Expressions.{type_names_are_typed}
+use Rattle.c_accepted.proofs.Same.{type_names_are_typed}
 use Rattle.c_accepted.proofs.laws.type_names_are_typed.Goals as goal
 
 pub returns : goal.returns
