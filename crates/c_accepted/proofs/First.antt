@@ -10,7 +10,7 @@ use Rattle.c_types.specs.Scene.{CScene}
 use Rattle.c_types.specs.Expressions.{typed, typed_all}
 use Rattle.c_types.specs.Statements.{CAround, item, items}
 use Rattle.c_typing.specs.Units.{CDefinitions, CFile, external, externals}
-use Rattle.c_accepted.specs.AcceptanceLaws.{BothWays, FailsAtFirst, ArgumentsFailAtFirst, ItemsFailAtFirst, FilesFailAtFirst}
+use Rattle.c_accepted.specs.AcceptanceLaws.{BothWays, FailsAtFirst}
 use Rattle.c_accepted.proofs.Steps.{same_ok}
 
 -- one after the other, from the state
@@ -95,8 +95,9 @@ argument_refused a x e = by (typed a.1 x)
     by (Ok y) = record { forward = λ h. absurd cc; backward = λ h. absurd cc }
     by (Err f) = record { forward = λ h. let same : f ≡ e = cc in rw same refl; backward = λ h. let same : f ≡ e = cc in rw same refl }
 
-pub arguments_fail_at_first : ArgumentsFailAtFirst
-arguments_fail_at_first vs s es e = same_first one_argument (λ a es. typed_all a.0 a.1 (listed es)) arguments_equal (λ a x e. typed a.1 x ≡ Err e) argument_refused (vs, s) es e
+pub arguments_first : (vs : List CExpr) (s : CScene) (es : List ExpressionTree) (e : TypeError)
+    → BothWays (typed_all vs s (listed es) ≡ Err e) (FailsAtFirst (λ front u. typed_all vs s (listed front) ≡ Ok u) (λ u next. typed u.1 next ≡ Err e) es)
+arguments_first vs s es e = same_first one_argument (λ a es. typed_all a.0 a.1 (listed es)) arguments_equal (λ a x e. typed a.1 x ≡ Err e) argument_refused (vs, s) es e
 
 module _ (a : CAround) where
   one_item : List CStmt × CScene → BlockItemTree → Rule (List CStmt × CScene)
@@ -116,8 +117,9 @@ module _ (a : CAround) where
   unfolding one_item
   item_refused b x e = record { forward = λ h. h; backward = λ h. h }
 
-pub items_fail_at_first : ItemsFailAtFirst
-items_fail_at_first a done s xs e = same_first (one_item a) (λ b xs. items a b.0 b.1 (listed_items xs)) (items_equal a) (λ b x e. item a b.0 b.1 x ≡ Err e) (item_refused a) (done, s) xs e
+pub items_first : (a : CAround) (done : List CStmt) (s : CScene) (xs : List BlockItemTree) (e : TypeError)
+    → BothWays (items a done s (listed_items xs) ≡ Err e) (FailsAtFirst (λ front u. items a done s (listed_items front) ≡ Ok u) (λ u next. item a u.0 u.1 next ≡ Err e) xs)
+items_first a done s xs e = same_first (one_item a) (λ b xs. items a b.0 b.1 (listed_items xs)) (items_equal a) (λ b x e. item a b.0 b.1 x ≡ Err e) (item_refused a) (done, s) xs e
 
 module _ (numbers : CDefinitions) where
   one_external : CFile → ExternalTree → Rule CFile
@@ -136,5 +138,6 @@ module _ (numbers : CDefinitions) where
   unfolding one_external
   external_refused f x e = record { forward = λ h. h; backward = λ h. h }
 
-pub files_fail_at_first : FilesFailAtFirst
-files_fail_at_first numbers f xs e = same_first (one_external numbers) (externals numbers) (externals_equal numbers) (λ g x e. external numbers g x ≡ Err e) (external_refused numbers) f xs e
+pub externals_first : (numbers : CDefinitions) (f : CFile) (xs : List ExternalTree) (e : TypeError)
+    → BothWays (externals numbers f xs ≡ Err e) (FailsAtFirst (λ front g. externals numbers f front ≡ Ok g) (λ g next. external numbers g next ≡ Err e) xs)
+externals_first numbers f xs e = same_first (one_external numbers) (externals numbers) (externals_equal numbers) (λ g x e. external numbers g x ≡ Err e) (external_refused numbers) f xs e

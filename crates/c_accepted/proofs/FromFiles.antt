@@ -192,7 +192,7 @@ module _ (numbers : CDefinitions) where
       let b = bound (headed f.scene head) _ g is in
       AcceptsExternal.definition (from_headed f.scene head b.0 b.1) (from_defined b.0.0 (record f { scene = b.0.1 }) d body g b.2)
 
-  from_externals : (f : CFile) (es : List ExternalTree) (g : CFile) → externals numbers f es ≡ Ok g → AcceptsExternals numbers f es g
+  pub from_externals : (f : CFile) (es : List ExternalTree) (g : CFile) → externals numbers f es ≡ Ok g → AcceptsExternals numbers f es g
   from_externals f [] g is = subst (AcceptsExternals numbers f []) (same_ok f g is) AcceptsExternals.nothing
   from_externals f (e ∷ es) g is =
       let h = bound (external numbers f e) _ g is in

@@ -95,10 +95,10 @@ from_start s (ForStartTree.Expression (Some e)) r is =
 abbrev Is : CAround → CScene → StatementTree → CStmt × CScene → Type 0
 Is a s x r = AcceptsStatement a s x r.0 r.1
 
-record ItemsAre (a : CAround) (s : CScene) (xs : BlockItemTrees) (done : List CStmt) (r : List CStmt × CScene) : Type 0 where
-  these : List CStmt
-  is : r.0 ≡ done ++ these
-  accepts : AcceptsItems a s xs these r.1
+pub record ItemsAre (a : CAround) (s : CScene) (xs : BlockItemTrees) (done : List CStmt) (r : List CStmt × CScene) : Type 0 where
+  pub these : List CStmt
+  pub is : r.0 ≡ done ++ these
+  pub accepts : AcceptsItems a s xs these r.1
 
 from_returned : (a : CAround) (s : CScene) (at : At) (o : Option ExpressionTree) (r : CStmt × CScene) → returned a s at o ≡ Ok r → Is a s (StatementTree.Return at o) r
 from_returned a s at None r is =
@@ -162,7 +162,7 @@ mutual
       subst (λ q. AcceptsBlock a s (BlockTree.block at xs) q.0 q.1) (same_ok (CStmt.Block at (stmts y.0.0), y.0.1) r y.2)
         (AcceptsBlock.in_braces (subst (λ l. AcceptsItems a s xs l y.0.1) (sym all.is) all.accepts))
 
-  from_items : (a : CAround) (done : List CStmt) (s : CScene) (xs : BlockItemTrees) (r : List CStmt × CScene) → items a done s xs ≡ Ok r → ItemsAre a s xs done r
+  pub from_items : (a : CAround) (done : List CStmt) (s : CScene) (xs : BlockItemTrees) (r : List CStmt × CScene) → items a done s xs ≡ Ok r → ItemsAre a s xs done r
   from_items a done s BlockItemTrees.none r is = subst (ItemsAre a s BlockItemTrees.none done) (same_ok (done, s) r is) (record { these = []; is = sym (append-nil done); accepts = AcceptsItems.no_item })
   from_items a done s (BlockItemTrees.more (BlockItemTree.Declaration d) xs) r is =
       let x = bound (item a done s (BlockItemTree.Declaration d)) _ r is in

@@ -63,7 +63,7 @@ mutual
   pub from_typed : (s : CScene) (e : ExpressionTree) (r : CExpr × CScene) → typed s e ≡ Ok r → IsAccepted s e r
   from_typed s (ExpressionTree.Name at x) r is =
       let v = bound (object s at x) _ r is in
-      ends _ _ _ _ s r v.2 refl (object_from s at x v.0 v.1)
+      ends s (ExpressionTree.Name at x) _ _ s r v.2 refl (object_from s at x v.0 v.1)
   from_typed s (ExpressionTree.Number at n u) r is = subst (IsAccepted s (ExpressionTree.Number at n u)) (same_ok (CExpr.expr at (if u then CType.Unsigned else CType.Int) (CForm.Number n), s) r is) Accepts.number
   from_typed s (ExpressionTree.Character at n) r is = subst (IsAccepted s (ExpressionTree.Character at n)) (same_ok (CExpr.expr at CType.Int (CForm.Character n), s) r is) Accepts.character
   from_typed s (ExpressionTree.Text at pieces) r is = text_from s at pieces r is
@@ -77,7 +77,7 @@ mutual
       let first = from_typed s a x.0 x.1 in
       let second = from_typed x.0.1 i y.0 y.1 in
       let o = index_from y.0.1.structs at x.0.0 y.0.0 v.0 (reads _ _ _ _ first).written (reads _ _ _ _ second).written v.1 in
-      ends _ _ v.0 _ y.0.1 r v.2 o.is (Accepts.index first second o.left o.right o.keeps)
+      ends s (ExpressionTree.Index at a i) v.0 (CExpr.expr at o.type (CForm.Index o.first o.second)) y.0.1 r v.2 o.is (Accepts.index first second o.left o.right o.keeps)
   from_typed s (ExpressionTree.Call at f es) r is =
       let c = bound (callee_of s f) _ r is in
       let u = bound (called_first s c.0 (typed s f)) _ r c.2 in
@@ -88,49 +88,49 @@ mutual
       let v = bound (member_rule x.0.1.structs at x.0.0 m) _ r x.2 in
       let first = from_typed s a x.0 x.1 in
       let o = member_from x.0.1.structs at x.0.0 m v.0 v.1 in
-      ends _ _ v.0 _ x.0.1 r v.2 o.is (Accepts.member first o.keeps o.named)
+      ends s (ExpressionTree.Member at a m) v.0 (CExpr.expr at o.type (CForm.Member x.0.0 o.member)) x.0.1 r v.2 o.is (Accepts.member first o.keeps o.named)
   from_typed s (ExpressionTree.Arrow at a m) r is =
       let x = bound (typed s a) _ r is in
       let v = bound (arrow_rule x.0.1.structs at x.0.0 m) _ r x.2 in
       let first = from_typed s a x.0 x.1 in
       let o = arrow_from x.0.1.structs at x.0.0 m v.0 (reads _ _ _ _ first).written v.1 in
-      ends _ _ v.0 _ x.0.1 r v.2 o.is (Accepts.arrow first o.becomes o.keeps o.named)
+      ends s (ExpressionTree.Arrow at a m) v.0 (CExpr.expr at o.type (CForm.Arrow o.operand o.member)) x.0.1 r v.2 o.is (Accepts.arrow first o.becomes o.keeps o.named)
   from_typed s (ExpressionTree.StepAfter at a op) r is =
       let x = bound (typed s a) _ r is in
       let v = bound (step_after_rule x.0.1.structs at op x.0.0) _ r x.2 in
       let first = from_typed s a x.0 x.1 in
       let o = step_after_from x.0.1.structs at op x.0.0 v.0 v.1 in
-      ends _ _ v.0 _ x.0.1 r v.2 o.is (Accepts.step_after first o.keeps)
+      ends s (ExpressionTree.StepAfter at a op) v.0 (CExpr.expr at o.type (CForm.StepAfter op x.0.0)) x.0.1 r v.2 o.is (Accepts.step_after first o.keeps)
   from_typed s (ExpressionTree.StepBefore at op a) r is =
       let x = bound (typed s a) _ r is in
       let v = bound (step_before_rule x.0.1.structs at op x.0.0) _ r x.2 in
       let first = from_typed s a x.0 x.1 in
       let o = step_before_from x.0.1.structs at op x.0.0 v.0 v.1 in
-      ends _ _ v.0 _ x.0.1 r v.2 o.is (Accepts.step_before first o.keeps)
+      ends s (ExpressionTree.StepBefore at op a) v.0 (CExpr.expr at o.type (CForm.StepBefore op x.0.0)) x.0.1 r v.2 o.is (Accepts.step_before first o.keeps)
   from_typed s (ExpressionTree.Unary at op a) r is =
       let x = bound (typed s a) _ r is in
       let v = bound (unary_rule x.0.1.structs at op x.0.0) _ r x.2 in
       let first = from_typed s a x.0 x.1 in
       let o = unary_from x.0.1.structs at op x.0.0 v.0 (reads _ _ _ _ first).written v.1 in
-      ends _ _ v.0 _ x.0.1 r v.2 o.is (Accepts.unary first o.becomes o.keeps)
+      ends s (ExpressionTree.Unary at op a) v.0 (CExpr.expr at o.type (CForm.Unary op o.operand)) x.0.1 r v.2 o.is (Accepts.unary first o.becomes o.keeps)
   from_typed s (ExpressionTree.SizeofType at t) r is =
       let u = bound (type_named s t) _ r is in
       let v = bound (measured_type u.0.1.structs at u.0.0) _ r u.2 in
       let o = measured_type_from u.0.1.structs at u.0.0 v.0 v.1 in
-      ends _ _ v.0 _ u.0.1 r v.2 o.1 (Accepts.sizeof_type (from_type_named s t u.0 u.1) o.0)
+      ends s (ExpressionTree.SizeofType at t) v.0 (CExpr.expr at CType.Unsigned (CForm.SizeofType u.0.0)) u.0.1 r v.2 o.1 (Accepts.sizeof_type (from_type_named s t u.0 u.1) o.0)
   from_typed s (ExpressionTree.SizeofExpression at a) r is =
       let x = bound (typed s a) _ r is in
       let v = bound (measured_rule x.0.1.structs at x.0.0) _ r x.2 in
       let first = from_typed s a x.0 x.1 in
       let o = measured_from x.0.1.structs at x.0.0 v.0 (reads _ _ _ _ first).written v.1 in
-      ends _ _ v.0 _ x.0.1 r v.2 o.is (Accepts.sizeof_expression first o.keeps)
+      ends s (ExpressionTree.SizeofExpression at a) v.0 (CExpr.expr at o.type (CForm.SizeofExpression x.0.0)) x.0.1 r v.2 o.is (Accepts.sizeof_expression first o.keeps)
   from_typed s (ExpressionTree.Cast at t a) r is =
       let u = bound (type_named s t) _ r is in
       let x = bound (typed u.0.1 a) _ r u.2 in
       let v = bound (cast_rule at u.0.0 x.0.0) _ r x.2 in
       let first = from_typed u.0.1 a x.0 x.1 in
       let o = cast_from at u.0.0 x.0.0 v.0 (reads _ _ _ _ first).written v.1 in
-      ends _ _ v.0 _ x.0.1 r v.2 o.is (Accepts.cast (from_type_named s t u.0 u.1) first o.becomes o.keeps)
+      ends s (ExpressionTree.Cast at t a) v.0 (CExpr.expr at u.0.0 (CForm.Cast o.operand)) x.0.1 r v.2 o.is (Accepts.cast (from_type_named s t u.0 u.1) first o.becomes o.keeps)
   from_typed s (ExpressionTree.Binary at a op b) r is =
       let x = bound (typed s a) _ r is in
       let y = bound (typed x.0.1 b) _ r x.2 in
@@ -138,7 +138,7 @@ mutual
       let first = from_typed s a x.0 x.1 in
       let second = from_typed x.0.1 b y.0 y.1 in
       let o = binary_from y.0.1.structs at op x.0.0 y.0.0 v.0 (reads _ _ _ _ first).written (reads _ _ _ _ second).written v.1 in
-      ends _ _ v.0 _ y.0.1 r v.2 o.is (Accepts.binary first second o.left o.right o.keeps)
+      ends s (ExpressionTree.Binary at a op b) v.0 (CExpr.expr at o.type (CForm.Binary op o.first o.second)) y.0.1 r v.2 o.is (Accepts.binary first second o.left o.right o.keeps)
   from_typed s (ExpressionTree.Conditional at c a b) r is =
       let x = bound (typed s c) _ r is in
       let y = bound (typed x.0.1 a) _ r x.2 in
@@ -148,7 +148,7 @@ mutual
       let second = from_typed x.0.1 a y.0 y.1 in
       let third = from_typed y.0.1 b z.0 z.1 in
       let o = conditional_from at x.0.0 y.0.0 z.0.0 v.0 (reads _ _ _ _ first).written (reads _ _ _ _ second).written (reads _ _ _ _ third).written v.1 in
-      ends _ _ v.0 _ z.0.1 r v.2 o.chosen.is (Accepts.conditional first second third o.tested.becomes o.chosen.left o.chosen.right o.tested.condition o.chosen.keeps)
+      ends s (ExpressionTree.Conditional at c a b) v.0 (CExpr.expr at o.chosen.type (CForm.Conditional o.condition o.chosen.first o.chosen.second)) z.0.1 r v.2 o.chosen.is (Accepts.conditional first second third o.tested.becomes o.chosen.left o.chosen.right o.tested.condition o.chosen.keeps)
   from_typed s (ExpressionTree.Assign at a op b) r is =
       let x = bound (typed s a) _ r is in
       let y = bound (typed x.0.1 b) _ r x.2 in
@@ -156,14 +156,14 @@ mutual
       let first = from_typed s a x.0 x.1 in
       let second = from_typed x.0.1 b y.0 y.1 in
       let o = assign_from y.0.1.structs at op x.0.0 y.0.0 v.0 (reads _ _ _ _ first).written (reads _ _ _ _ second).written v.1 in
-      ends _ _ v.0 _ y.0.1 r v.2 o.is (Accepts.assign first second o.becomes o.keeps)
+      ends s (ExpressionTree.Assign at a op b) v.0 (CExpr.expr at o.type (CForm.Assign op x.0.0 o.operand)) y.0.1 r v.2 o.is (Accepts.assign first second o.becomes o.keeps)
   from_typed s (ExpressionTree.Comma at a b) r is =
       let x = bound (typed s a) _ r is in
       let y = bound (typed x.0.1 b) _ r x.2 in
       let first = from_typed s a x.0 x.1 in
       let second = from_typed x.0.1 b y.0 y.1 in
       let o = comma_from at x.0.0 y.0.0 (reads _ _ _ _ first).written (reads _ _ _ _ second).written in
-      ends _ _ (comma_rule at x.0.0 y.0.0) _ y.0.1 r y.2 o.is (Accepts.comma first second o.left o.right o.keeps)
+      ends s (ExpressionTree.Comma at a b) (comma_rule at x.0.0 y.0.0) (CExpr.expr at o.type (CForm.Comma o.first o.second)) y.0.1 r y.2 o.is (Accepts.comma first second o.left o.right o.keeps)
 
   pub from_typed_all : (vs : List CExpr) (s : CScene) (es : ExpressionTrees) (r : List CExpr × CScene) → typed_all vs s es ≡ Ok r → AreAccepted s es vs r
   from_typed_all vs s ExpressionTrees.none r is = subst (AreAccepted s ExpressionTrees.none vs) (same_ok (vs, s) r is) (record { these = []; is = sym (append-nil vs); accepts = AcceptsAll.nothing })

@@ -22,3 +22,4 @@ pub mod FromStatements
 pub mod Agreement
 pub mod ToFiles
 pub mod FromFiles
+pub mod Refused

@@ -118,7 +118,7 @@ module _ (numbers : CDefinitions) where
   to_external f e g (AcceptsExternal.declaration head is) = onward _ _ _ _ (to_headed f.scene _ _ _ head) (to_all_declared _ _ _ g is)
   to_external f e g (AcceptsExternal.definition head is) = onward _ _ _ _ (to_headed f.scene _ _ _ head) (to_defined _ _ _ _ g is)
 
-  to_externals : (f : CFile) (es : List ExternalTree) (g : CFile) → AcceptsExternals numbers f es g → externals numbers f es ≡ Ok g
+  pub to_externals : (f : CFile) (es : List ExternalTree) (g : CFile) → AcceptsExternals numbers f es g → externals numbers f es ≡ Ok g
   to_externals f es g AcceptsExternals.nothing = refl
   to_externals f es g (AcceptsExternals.next one more) = onward _ _ _ _ (to_external f _ _ one) (to_externals _ _ g more)
 

@@ -87,7 +87,7 @@ mutual
   pub to_block : (a : CAround) (s : CScene) (b : BlockTree) (y : CStmt) (u : CScene) → AcceptsBlock a s b y u → block a s b ≡ Ok (y, u)
   to_block a s b y u (AcceptsBlock.in_braces is) = onward _ _ _ _ (to_items a _ _ _ _ [] is) refl
 
-  to_items : (a : CAround) (s : CScene) (xs : BlockItemTrees) (ys : List CStmt) (u : CScene) (done : List CStmt) → AcceptsItems a s xs ys u → items a done s xs ≡ Ok (done ++ ys, u)
+  pub to_items : (a : CAround) (s : CScene) (xs : BlockItemTrees) (ys : List CStmt) (u : CScene) (done : List CStmt) → AcceptsItems a s xs ys u → items a done s xs ≡ Ok (done ++ ys, u)
   to_items a s xs ys u done AcceptsItems.no_item = pair_is done (done ++ []) s (sym (append-nil done))
   to_items a s xs ys u done (AcceptsItems.declaration_item {d = d} {vs = vs} is more) =
       onward _ _ (done ++ map CStmt.Declare vs, _) _ (onward _ _ _ _ (to_declaration s d vs _ is) refl) (to_items a _ _ _ _ (done ++ map CStmt.Declare vs) more ∙ pair_is _ _ u (past_items done (map CStmt.Declare vs) _))

@@ -1,20 +1,22 @@
 -- The relation of acceptance, and the functions that type: they say the same.
-use Rattle.std.specs.Prelude.{ℕ, ◌≡◌, Bool, Ok, Err, List, [], ◌∷◌, ◌++◌}
+use Rattle.std.specs.Prelude.{ℕ, ◌≡◌, Bool, Some, None, Ok, Err, List, [], ◌∷◌, ◌++◌, codes}
 use Rattle.c_tree.specs.Syntax.{ExpressionTree, ExpressionTrees, TypeNameTree, InitializerTree, StructDefinitionTree, StatementTree, BlockItemTree, ExternalTree, UnitTree}
 use Rattle.c_tree.specs.SyntaxViews.{listed, listed_items}
 use Rattle.c_typed.specs.Types.{CType}
 use Rattle.c_typed.specs.TypedTree.{CExpr, CInitial, CStmt, CProgram}
 use Rattle.c_rules.specs.declared.error.TypeError.{TypeError}
-use Rattle.c_types.specs.Scene.{CScene}
+use Rattle.c_rules.specs.declared.error.TypeError.TheVariants.{Unknown, NoMain}
+use Rattle.c_types.specs.Names.{found}
+use Rattle.c_types.specs.Scene.{CScene, CDeclared}
 use Rattle.c_types.specs.Expressions.{typed, typed_all, type_named}
 use Rattle.c_types.specs.Structs.{struct_defined}
 use Rattle.c_types.specs.Initializers.{initialized}
 use Rattle.c_types.specs.Statements.{CAround, statement, item, items}
-use Rattle.c_typing.specs.Units.{CDefinitions, CFile, external, externals, typed_unit}
+use Rattle.c_typing.specs.Units.{CDefinitions, CFile, definitions, empty_file, external, undefined, typed_unit}
 use Rattle.c_accepted.specs.AcceptanceExpressions.{Accepts, AcceptsAll, NamesType}
 use Rattle.c_accepted.specs.AcceptanceDeclarators.{DefinesStruct, IsInitializedBy}
-use Rattle.c_accepted.specs.AcceptanceStatements.{AcceptsStatement}
-use Rattle.c_accepted.specs.AcceptanceFiles.{AcceptsExternal, AcceptsUnit}
+use Rattle.c_accepted.specs.AcceptanceStatements.{AcceptsStatement, AcceptsItems}
+use Rattle.c_accepted.specs.AcceptanceFiles.{AcceptsExternal, AcceptsExternals, AreDefined, AcceptsUnit}
 
 -- each follows from the other
 pub record BothWays (P Q : Type 0) : Type 0 where
@@ -29,32 +31,6 @@ ArgumentsAreTyped = (s : CScene) (es : ExpressionTrees) (vs : List CExpr) (u : C
 
 abbrev pub TypeNamesAreTyped : Type 0
 TypeNamesAreTyped = (s : CScene) (n : TypeNameTree) (t : CType) (u : CScene) → BothWays (NamesType s n t u) (type_named s n ≡ Ok (t, u))
-
--- Where a list is refused: all before one of it is accepted, as `before` says, and that one is refused, as `fails` says.
--- What follows says nothing.
-pub record FailsAtFirst {X A : Type 0} (before : List X → A → Type 0) (fails : A → X → Type 0) (list : List X) : Type 0 where
-  pub front : List X
-  pub next : X
-  pub rest : List X
-  pub parts : list ≡ front ++ next ∷ rest
-  pub state : A
-  pub accepted : before front state
-  pub refused : fails state next
-
-abbrev pub ArgumentsFailAtFirst : Type 0
-ArgumentsFailAtFirst = (vs : List CExpr) (s : CScene) (es : List ExpressionTree) (e : TypeError) →
-    BothWays (typed_all vs s (listed es) ≡ Err e)
-    (FailsAtFirst (λ front u. typed_all vs s (listed front) ≡ Ok u) (λ u next. typed u.1 next ≡ Err e) es)
-
-abbrev pub ItemsFailAtFirst : Type 0
-ItemsFailAtFirst = (a : CAround) (xs : List CStmt) (s : CScene) (parts : List BlockItemTree) (e : TypeError) →
-    BothWays (items a xs s (listed_items parts) ≡ Err e)
-    (FailsAtFirst (λ front u. items a xs s (listed_items front) ≡ Ok u) (λ u next. item a u.0 u.1 next ≡ Err e) parts)
-
-abbrev pub FilesFailAtFirst : Type 0
-FilesFailAtFirst = (numbers : CDefinitions) (f : CFile) (es : List ExternalTree) (e : TypeError) →
-    BothWays (externals numbers f es ≡ Err e)
-    (FailsAtFirst (λ front g. externals numbers f front ≡ Ok g) (λ g next. external numbers g next ≡ Err e) es)
 
 abbrev pub StructsAreTyped : Type 0
 StructsAreTyped = (s : CScene) (d : StructDefinitionTree) (k : ℕ) (u : CScene) → BothWays (DefinesStruct s d k u) (struct_defined s d ≡ Ok (k, u))
@@ -73,3 +49,38 @@ ExternalsAreTyped = (numbers : CDefinitions) (f : CFile) (e : ExternalTree) (g :
 -- A file is accepted as a program exactly where typing gives that program.
 abbrev pub AcceptedIsTyped : Type 0
 AcceptedIsTyped = (u : UnitTree) (p : CProgram) → BothWays (AcceptsUnit u p) (typed_unit u ≡ Ok p)
+
+-- Where a list is refused: all before one of it is accepted, as `before` says, and that one is refused, as `fails` says.
+-- What follows says nothing.
+pub record FailsAtFirst {X A : Type 0} (before : List X → A → Type 0) (fails : A → X → Type 0) (list : List X) : Type 0 where
+  pub front : List X
+  pub next : X
+  pub rest : List X
+  pub parts : list ≡ front ++ next ∷ rest
+  pub state : A
+  pub accepted : before front state
+  pub refused : fails state next
+
+abbrev pub ArgumentsFailAtFirst : Type 0
+ArgumentsFailAtFirst = (s : CScene) (es : List ExpressionTree) (e : TypeError) →
+    BothWays (typed_all [] s (listed es) ≡ Err e)
+    (FailsAtFirst (λ front u. (vs : List CExpr) × AcceptsAll s (listed front) vs u) (λ u next. typed u next ≡ Err e) es)
+
+abbrev pub ItemsFailAtFirst : Type 0
+ItemsFailAtFirst = (a : CAround) (s : CScene) (xs : List BlockItemTree) (e : TypeError) →
+    BothWays (items a [] s (listed_items xs) ≡ Err e)
+    (FailsAtFirst (λ front u. (ys : List CStmt) × AcceptsItems a s (listed_items front) ys u) (λ u next. item a [] u next ≡ Err e) xs)
+
+-- Where a file is refused: at the first of its declarations that is; or behind them all, for the first function that is
+-- called and not defined; or, if there is none, for want of `main`.
+pub data IsRefusedWith (u : UnitTree) (e : TypeError) : Type 0 where
+  in_text : FailsAtFirst (AcceptsExternals (definitions [] u.externals) empty_file) (λ f next. external (definitions [] u.externals) f next ≡ Err e) u.externals → IsRefusedWith u e
+  not_defined : {f : CFile} {g : CDeclared}
+      → AcceptsExternals (definitions [] u.externals) empty_file u.externals f → undefined f.scene.functions f.scene.called ≡ Some g
+      → e ≡ Unknown g.line g.name → IsRefusedWith u e
+  no_main : {f : CFile}
+      → AcceptsExternals (definitions [] u.externals) empty_file u.externals f → AreDefined f.scene
+      → found (codes "main") (definitions [] u.externals) ≡ None → e ≡ NoMain → IsRefusedWith u e
+
+abbrev pub FilesFailAtFirst : Type 0
+FilesFailAtFirst = (u : UnitTree) (e : TypeError) → BothWays (typed_unit u ≡ Err e) (IsRefusedWith u e)

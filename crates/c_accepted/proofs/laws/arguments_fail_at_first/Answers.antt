@@ -1,4 +1,4 @@
-use Rattle.c_accepted.proofs.First.{arguments_fail_at_first}
+use Rattle.c_accepted.proofs.Refused.{arguments_fail_at_first}
 use Rattle.c_accepted.proofs.laws.arguments_fail_at_first.Goals as goal
 
 pub returns : goal.returns
