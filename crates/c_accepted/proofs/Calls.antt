@@ -97,8 +97,8 @@ module _ (s u : CScene) (at : At) (f : ExpressionTree) (es : ExpressionTrees) (x
       let v = bound (call_rule at (Defined g.number) g.result g.params (exprs xs)) _ r is_r in
       let call = call_from at (Defined g.number) g.result g.params xs v.0 (to_written xs read) v.1 in
       subst (λ q. Accepts s (ExpressionTree.Call at (ExpressionTree.Name name_at x) es) q.0 q.1) (same_ok (v.0, record u { called = slice_set u.called k true }) r v.2)
-        (subst (λ w. Accepts s (ExpressionTree.Call at (ExpressionTree.Name name_at x) es) w (record u { called = slice_set u.called k true })) (sym call.is)
-          (Accepts.call none is args found call.passed.become call.passed.given))
+      (subst (λ w. Accepts s (ExpressionTree.Call at (ExpressionTree.Name name_at x) es) w (record u { called = slice_set u.called k true })) (sym call.is)
+      (Accepts.call none is args found call.passed.become call.passed.given))
 
   by_library : (name_at : At) (x : List ℕ) (g : LibCall) (r : CExpr × CScene) → IsNoLocal s x → found x s.names ≡ None → in_library x ≡ Some g
       → library_called u at g xs (prototype_in_library g) ≡ Ok r → Accepts s (ExpressionTree.Call at (ExpressionTree.Name name_at x) es) r.0 r.1
@@ -107,8 +107,8 @@ module _ (s u : CScene) (at : At) (f : ExpressionTree) (es : ExpressionTrees) (x
       let v = bound (call_rule at (Library g) p.result p.params (exprs xs)) _ r is_r in
       let call = call_from at (Library g) p.result p.params xs v.0 (to_written xs read) v.1 in
       subst (λ q. Accepts s (ExpressionTree.Call at (ExpressionTree.Name name_at x) es) q.0 q.1) (same_ok (v.0, u) r v.2)
-        (subst (λ w. Accepts s (ExpressionTree.Call at (ExpressionTree.Name name_at x) es) w u) (sym call.is)
-          (Accepts.library_call no_local no_name is args call.passed.become call.passed.given))
+      (subst (λ w. Accepts s (ExpressionTree.Call at (ExpressionTree.Name name_at x) es) w u) (sym call.is)
+      (Accepts.library_call no_local no_name is args call.passed.become call.passed.given))
 
   by_callee : (c : Callee) (r : CExpr × CScene) → (name_at : At) (x : List ℕ) → Names s x c → called u at c xs ≡ Ok r → Accepts s (ExpressionTree.Call at (ExpressionTree.Name name_at x) es) r.0 r.1
   by_callee (callee.Function k) r name_at x names is = by_function name_at x k r names.0 names.1 _ refl is

@@ -63,11 +63,16 @@ module _ {X A : Type 0} (one : A → X → Rule A) (all : A → List X → Rule 
       let first = at_first one a xs e in
       record {
         forward = λ is.
-          let f = first.forward (sym (equal a xs) ∙ is) in
-          record { front = f.front; next = f.next; rest = f.rest; parts = f.parts; state = f.state; accepted = rw (equal a f.front) f.accepted; refused = (same f.state f.next e).forward f.refused };
+            let f = first.forward (sym (equal a xs) ∙ is) in
+            record { front = f.front; next = f.next; rest = f.rest; parts = f.parts; state = f.state; accepted = rw (equal a f.front) f.accepted; refused = (same f.state f.next e).forward f.refused };
         backward = λ f. rw (equal a xs) (first.backward (record {
-          front = f.front; next = f.next; rest = f.rest; parts = f.parts; state = f.state;
-          accepted = sym (equal a f.front) ∙ f.accepted; refused = (same f.state f.next e).backward f.refused;
+          front = f.front;
+          next = f.next;
+          rest = f.rest;
+          parts = f.parts;
+          state = f.state;
+          accepted = sym (equal a f.front) ∙ f.accepted;
+          refused = (same f.state f.next e).backward f.refused;
         }));
       }
 

@@ -85,13 +85,13 @@ module _ (structs : List CStruct) (at : At) (x y d e : CExpr) (left : IsValue x 
       two structs at binary.Subtract x y _ _ _ v is left.becomes (distance structs y d e right l_is) (AreSubtracted.pointer_and_number (moves structs x y d e left right l_is))
   subtracted_by v false false true n_is l_is r_is is =
       two structs at binary.Subtract x y _ _ _ v is left.becomes right.becomes
-        (AreSubtracted.pointers (record {
-          left = left.plain;
-          right = right.plain;
-          one_type = same_is (type_of d) (type_of e) (and_right (points_to_complete structs (type_of d)) _ r_is);
-          complete = points structs (type_of d) (and_left _ _ r_is);
-          result = refl;
-        }))
+      (AreSubtracted.pointers (record {
+        left = left.plain;
+        right = right.plain;
+        one_type = same_is (type_of d) (type_of e) (and_right (points_to_complete structs (type_of d)) _ r_is);
+        complete = points structs (type_of d) (and_left _ _ r_is);
+        result = refl;
+      }))
   subtracted_by v false false false n_is l_is r_is is = absurd cc
 
   subtracted_from : (v : CExpr) → subtracted structs at d e ≡ Ok v → OfBinary structs at binary.Subtract x y v
@@ -106,7 +106,7 @@ module _ (structs : List CStruct) (at : At) (x y d e : CExpr) (left : IsValue x 
       two structs at op x y _ _ CType.Int v is both.left both.right (fits _ _ (AreOrdered.numbers _ both.are))
   ordered_by op fits v false true n_is p_is is =
       two structs at op x y _ _ CType.Int v is left.becomes right.becomes
-        (fits _ _ (AreOrdered.pointers left.plain right.plain (and_left _ _ p_is) (same_is (type_of d) (type_of e) (and_right (is_pointer (type_of d)) _ p_is))))
+      (fits _ _ (AreOrdered.pointers left.plain right.plain (and_left _ _ p_is) (same_is (type_of d) (type_of e) (and_right (is_pointer (type_of d)) _ p_is))))
   ordered_by op fits v false false n_is p_is is = absurd cc
 
   ordered_from : (op : BinaryOperator) → ((a b : CExpr) → AreOrdered a b → IsBinary structs op a b CType.Int) → (v : CExpr) → ordered at op d e ≡ Ok v → OfBinary structs at op x y v
@@ -134,7 +134,7 @@ module _ (structs : List CStruct) (at : At) (x y d e : CExpr) (left : IsValue x 
       let passed = passes _ _ _ v is in
       let scalars : is_scalar (type_of d) && is_scalar (type_of e) ≡ true = not_false _ passed.0 in
       two structs at op x y _ _ CType.Int v passed.1 left.becomes right.becomes
-        (fits _ _ (record { plain = left.plain; scalar = and_left _ _ scalars }, record { plain = right.plain; scalar = and_right (is_scalar (type_of d)) _ scalars }, refl))
+      (fits _ _ (record { plain = left.plain; scalar = and_left _ _ scalars }, record { plain = right.plain; scalar = and_right (is_scalar (type_of d)) _ scalars }, refl))
 
   of_values : (op : BinaryOperator) (v : CExpr) → binary_of structs at op d e ≡ Ok v → OfBinary structs at op x y v
   of_values binary.Multiply v is = product_from binary.Multiply (λ a b t h. h) v is

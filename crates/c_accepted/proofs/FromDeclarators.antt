@@ -75,7 +75,7 @@ from_parameter_steps ps s (ParameterDeclaratorTree.Nested at n inner arrays) r i
     let first = from_parameter_steps ps s inner x.0 x.1 in
     let some = from_arrays x.0.0 x.0.1 arrays y.0 y.1 in
     with_pointers _ ps y.0.0 (pointed (first.these ++ some.these) n) n y.0.1 r y.2
-      (ap (λ l. pointed l n) (some.is ∙ ap (λ l. l ++ some.these) first.is) ∙ past_both ps first.these some.these n) (HasParameterSteps.nested first.have some.have)
+    (ap (λ l. pointed l n) (some.is ∙ ap (λ l. l ++ some.these) first.is) ∙ past_both ps first.these some.these n) (HasParameterSteps.nested first.have some.have)
 
 -- a parameter is no function
 no_function : (structs : List CStruct) (line : ℕ) (base t : CType) (params : List CParam) (ps : List CPart) → parameter_type structs line base (CPart.Function params ∷ ps) ≡ Ok t → ⊥
@@ -117,12 +117,12 @@ from_parameter params s p r is =
     let steps = from_parameter_steps [] (based s p.specifier).1 p.declarator ps.0 ps.1 in
     let type = from_parameter_type ps.0.1.structs _ (based s p.specifier).0 ps.0.0 t.0 t.1 in
     subst (ParameterIs (length params) s p params)
-      (same_ok (params ++ record { name = parameter_name p.declarator; ty = t.0; line = p.at.line } ∷ [], with_parameter ps.0.1 (length params) (parameter_name p.declarator) t.0) r t.2)
-      (record {
-        this = record { name = parameter_name p.declarator; ty = t.0; line = p.at.line };
-        is = refl;
-        has = IsParameter.parameter steps.have free.0 (subst (λ l. IsParameterType ps.0.1.structs (based s p.specifier).0 l t.0) steps.is type);
-      })
+    (same_ok (params ++ record { name = parameter_name p.declarator; ty = t.0; line = p.at.line } ∷ [], with_parameter ps.0.1 (length params) (parameter_name p.declarator) t.0) r t.2)
+    (record {
+      this = record { name = parameter_name p.declarator; ty = t.0; line = p.at.line };
+      is = refl;
+      has = IsParameter.parameter steps.have free.0 (subst (λ l. IsParameterType ps.0.1.structs (based s p.specifier).0 l t.0) steps.is type);
+    })
 
 from_parameters : (params : List CParam) (s : CScene) (ps : List ParameterTree) (r : List CParam × CScene) → parameters params s ps ≡ Ok r → ParametersAre (length params) s ps params r
 from_parameters params s [] r is = subst (ParametersAre (length params) s [] params) (same_ok (params, s) r is) (record { these = []; is = sym (append-nil params); have = AreParameters.nothing })
@@ -144,14 +144,14 @@ from_parameter_list s (Some (ParametersTree.Listed at ps)) r is =
     let x = bound (parameters [] (opened s) ps) _ r is in
     let all = from_parameters [] (opened s) ps x.0 x.1 in
     subst (λ q. HasParameters s (Some (ParametersTree.Listed at ps)) q.0 q.1) (same_ok (x.0.0, closed x.0.1) r x.2)
-      (HasParameters.listed (subst (λ l. AreParameters 0 (opened s) ps l x.0.1) (sym all.is) all.have))
+    (HasParameters.listed (subst (λ l. AreParameters 0 (opened s) ps l x.0.1) (sym all.is) all.have))
 
 from_suffix : (ps : List CPart) (s : CScene) (x : SuffixTree) (r : List CPart × CScene) → suffix_step ps s x ≡ Ok r → StepIs (HasSuffix s x) ps r
 from_suffix ps s (SuffixTree.Array a) r is = let h = from_array ps s a r is in record { this = h.this; is = h.is; has = HasSuffix.array h.has }
 from_suffix ps s (SuffixTree.Function at params) r is =
     let x = bound (parameters_of s params) _ r is in
     subst (StepIs (HasSuffix s (SuffixTree.Function at params)) ps) (same_ok (ps ++ CPart.Function x.0.0 ∷ [], x.0.1) r x.2)
-      (record { this = CPart.Function x.0.0; is = refl; has = HasSuffix.function (from_parameter_list s params x.0 x.1) })
+    (record { this = CPart.Function x.0.0; is = refl; has = HasSuffix.function (from_parameter_list s params x.0 x.1) })
 
 from_suffixes : (ps : List CPart) (s : CScene) (xs : List SuffixTree) (r : List CPart × CScene) → suffix_steps ps s xs ≡ Ok r → StepsAre (HaveSuffixes s xs) ps r
 from_suffixes ps s [] r is = none_behind (HaveSuffixes s []) ps s r is HaveSuffixes.nothing
@@ -172,7 +172,7 @@ from_declarator ps s (DeclaratorTree.Nested at n inner suffixes) r is =
     let first = from_declarator ps s inner x.0 x.1 in
     let some = from_suffixes x.0.0 x.0.1 suffixes y.0 y.1 in
     with_pointers _ ps y.0.0 (pointed (first.these ++ some.these) n) n y.0.1 r y.2
-      (ap (λ l. pointed l n) (some.is ∙ ap (λ l. l ++ some.these) first.is) ∙ past_both ps first.these some.these n) (HasDeclarator.nested first.have some.have)
+    (ap (λ l. pointed l n) (some.is ∙ ap (λ l. l ++ some.these) first.is) ∙ past_both ps first.these some.these n) (HasDeclarator.nested first.have some.have)
 
 -- the steps that a whole declarator has
 pub from_whole : (s : CScene) (d : DeclaratorTree) (r : List CPart × CScene) → declarator_steps [] s d ≡ Ok r → HasDeclarator s d r.0 r.1
@@ -203,5 +203,5 @@ from_struct s d r is =
     let ms = bound (member_lists [] (tagged s d.tag).1 d.members) _ r new.1 in
     let small = passes (nat_lt largest (laid_out ms.0.1.structs d.tag ms.0.0).size) (TooLarge d.at.line (laid_out ms.0.1.structs d.tag ms.0.0).size) _ r ms.2 in
     subst (λ q. DefinesStruct s d q.0 q.1)
-      (same_ok ((tagged s d.tag).0, record ms.0.1 { structs = slice_set ms.0.1.structs (tagged s d.tag).0 (laid_out ms.0.1.structs d.tag ms.0.0) }) r small.1)
-      (DefinesStruct.struct new.0 (from_member_lists [] (tagged s d.tag).1 d.members ms.0 ms.1) (not_less _ _ small.0))
+    (same_ok ((tagged s d.tag).0, record ms.0.1 { structs = slice_set ms.0.1.structs (tagged s d.tag).0 (laid_out ms.0.1.structs d.tag ms.0.0) }) r small.1)
+    (DefinesStruct.struct new.0 (from_member_lists [] (tagged s d.tag).1 d.members ms.0 ms.1) (not_less _ _ small.0))

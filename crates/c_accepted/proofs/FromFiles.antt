@@ -178,11 +178,11 @@ module _ (numbers : CDefinitions) where
       let ps = bound (declarator_steps [] f.scene d) _ g is in
       by_definition base f d body ps.0.0 ps.0.1 g (from_whole f.scene d ps.0 ps.1) ps.2
 
-  from_headed : (s : CScene) (head : HeadTree) (r : CType × CScene) → headed s head ≡ Ok r → Heads numbers s head r.0 r.1
-  from_headed s (HeadTree.Specifier p) r is = subst (λ q. Heads numbers s (HeadTree.Specifier p) q.0 q.1) (same_ok (based s p) r is) Heads.specifier
+  from_headed : (s : CScene) (head : HeadTree) (r : CType × CScene) → headed s head ≡ Ok r → Heads s head r.0 r.1
+  from_headed s (HeadTree.Specifier p) r is = subst (λ q. Heads s (HeadTree.Specifier p) q.0 q.1) (same_ok (based s p) r is) Heads.specifier
   from_headed s (HeadTree.Struct d) r is =
       let k = bound (struct_defined s d) _ r is in
-      subst (λ q. Heads numbers s (HeadTree.Struct d) q.0 q.1) (same_ok (CType.Struct k.0.0, k.0.1) r k.2) (Heads.struct (from_struct s d k.0 k.1))
+      subst (λ q. Heads s (HeadTree.Struct d) q.0 q.1) (same_ok (CType.Struct k.0.0, k.0.1) r k.2) (Heads.struct (from_struct s d k.0 k.1))
 
   pub from_external : (f : CFile) (e : ExternalTree) (g : CFile) → external numbers f e ≡ Ok g → AcceptsExternal numbers f e g
   from_external f (ExternalTree.Declaration at head ds) g is =
@@ -212,5 +212,5 @@ from_unit u p is =
     let a = bound (all_defined (undefined f.0.scene.functions f.0.scene.called)) _ p f.2 in
     let m = bound (main_or_none (found (codes "main") (definitions [] u.externals))) _ p a.2 in
     subst (AcceptsUnit u) (same_ok _ p m.2)
-      (AcceptsUnit.unit (from_externals (definitions [] u.externals) empty_file u.externals f.0 f.1)
-        (defined_is f.0.scene.functions f.0.scene.called (all_are _ a.0 a.1)) (main_found _ m.0 m.1))
+    (AcceptsUnit.unit (from_externals (definitions [] u.externals) empty_file u.externals f.0 f.1)
+    (defined_is f.0.scene.functions f.0.scene.called (all_are _ a.0 a.1)) (main_found _ m.0 m.1))

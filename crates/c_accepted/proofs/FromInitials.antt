@@ -82,7 +82,7 @@ module _ (is_global : Bool) where
       let filled : IsFilled t (joined string.pieces) = record { count = string.count; array = string.array; room = subst (λ w. length (joined string.pieces) ≤ room_of w) string.array room } in
       let one : Is s t (InitializerTree.Expression (ExpressionTree.Text text.0 string.pieces)) (CInitial.Text text.0 (joined string.pieces), s) = Initializes.string filled in
       subst (Is s t (InitializerTree.Expression e)) (ap (λ bytes. (CInitial.Text text.0 bytes, s)) string.bytes ∙ same_ok (CInitial.Text text.0 text.1, s) r h.1)
-        (subst (λ f. Is s t (InitializerTree.Expression f) (CInitial.Text text.0 (joined string.pieces), s)) (sym string.is) one)
+      (subst (λ f. Is s t (InitializerTree.Expression f) (CInitial.Text text.0 (joined string.pieces), s)) (sym string.is) one)
 
   expression_from : (s : CScene) (line : ℕ) (t : CType) (e : ExpressionTree) (r : CInitial × CScene) → (o : Option (At × List ℕ)) → string_of t e ≡ o → part_from is_global s line t e o ≡ Ok r → Is s t (InitializerTree.Expression e) r
   expression_from s line t e r None found is = no_string s line t e r is
@@ -105,7 +105,7 @@ module _ (is_global : Bool) where
       let x = bound (initials is_global [] s line t 0 parts) _ r is in
       let all = each x.0 x.1 in
       subst (Is s t (InitializerTree.Braced at parts)) (same_ok (CInitial.Braces at (listed x.0.0), x.0.1) r x.2)
-        (Initializes.braces aggregate (subst (λ l. InitializesParts is_global s t 0 parts l x.0.1) (sym all.is) all.have))
+      (Initializes.braces aggregate (subst (λ l. InitializesParts is_global s t 0 parts l x.0.1) (sym all.is) all.have))
   braced_from s line t at parts r false aggregate each is = let u = bound (all_looked_at s line parts) _ r is in absurd (no u.2)
     where
       no : (let o : Rule (CInitial × CScene) = Err (BadType line 20) in o) ≡ Ok r → ⊥
@@ -143,7 +143,7 @@ module _ (is_global : Bool) where
       let no = struct_no_array (type_of x.0.0) (subst (λ y. is_struct y ≡ true) (sym c.0.same_struct) struct) in
       let a = from_typed s e x.0 x.1 in
       subst (λ q. IsInitializedBy is_global s t (InitializerTree.Expression e) q.0 q.1) (ap (λ z. (CInitial.Value z, x.0.1)) c.1 ∙ same_ok (CInitial.Value w.0, x.0.1) r w.2)
-        (IsInitializedBy.copy a c.0 (subst (λ y. IsAllowed is_global x.0.1.structs y) (decayed_flat x.0.0 no.0) ok.0))
+      (IsInitializedBy.copy a c.0 (subst (λ y. IsAllowed is_global x.0.1.structs y) (decayed_flat x.0.0 no.0) ok.0))
 
   pub from_initialized : (s : CScene) (line : ℕ) (t : CType) (i : InitializerTree) (r : CInitial × CScene) → initialized is_global s line t i ≡ Ok r → IsInitializedBy is_global s t i r.0 r.1
   from_initialized s line t i r is = by (is_struct t) refl i is

@@ -134,11 +134,11 @@ given_by : (line : ℕ) (t : CType) (x d v : CExpr) → IsValue x d → (b c : B
 given_by line t x d v value true c numbers points is =
     let to = and_left _ _ numbers in
     subst (λ e. OfGiven t x e) (same_ok (as_number t d) v is)
-      (record { becomes = number_becomes t x d value (and_right (is_number t) _ numbers) to; given = (number_type t d, or_left _ _ to) })
+    (record { becomes = number_becomes t x d value (and_right (is_number t) _ numbers) to; given = (number_type t d, or_left _ _ to) })
 given_by line t x d v value false true numbers points is =
     let to = and_left _ _ points in
     subst (λ e. OfGiven t x e) (same_ok (as_pointer t d) v is)
-      (record { becomes = pointer_becomes t x d value to (and_right (is_pointer t) _ points); given = (pointer_type t d, or_right (is_number t) _ to) })
+    (record { becomes = pointer_becomes t x d value to (and_right (is_pointer t) _ points); given = (pointer_type t d, or_right (is_number t) _ to) })
 given_by line t x d v value false false numbers points is = absurd cc
 
 pub given_from : (line : ℕ) (t : CType) (x v : CExpr) → IsWritten x → given line t x ≡ Ok v → OfGiven t x v
@@ -169,7 +169,7 @@ module _ (structs : List CStruct) (at : At) (x : CExpr) (assignable : IsAssignab
       let c = bound (copied_from at.line (type_of x) y) _ v is in
       let h = copied_is at.line (type_of x) y c.0 struct c.1 in
       set_one structs at assign.Assign x y c.0 CType.Void v c.2 (subst (λ e. Becomes y e) h.1 Becomes.itself)
-        (IsSet.struct assignable (subst (λ e. IsCopied (type_of x) e) h.1 h.0) refl)
+      (IsSet.struct assignable (subst (λ e. IsCopied (type_of x) e) h.1 h.0) refl)
 
   given_to_left : (v : CExpr) → (given at.line (type_of x) y >>= λ b. Ok (CExpr.expr at (type_of x) (CForm.Assign assign.Assign x b))) ≡ Ok v → OfAssign structs at assign.Assign x y v
   given_to_left v is =
@@ -189,14 +189,16 @@ module _ (structs : List CStruct) (at : At) (x : CExpr) (assignable : IsAssignab
   right_number d value both =
       let t = common (type_of x) (type_of d) in
       let number : IsNumber (type_of d) = and_right (is_number (type_of x)) _ both in
-      let own = number_own t d value.self in
-      (number_becomes t y d value number (common_number (type_of x) (type_of d)), record {
-        assignable = assignable;
-        left_number = and_left _ _ both;
-        right_number = rw own number;
-        right = rw own (number_type t d);
-        result = refl;
-      })
+      let own = number_own t d value.self in (
+        number_becomes t y d value number (common_number (type_of x) (type_of d)),
+        record {
+          assignable = assignable;
+          left_number = and_left _ _ both;
+          right_number = rw own number;
+          right = rw own (number_type t d);
+          result = refl;
+        },
+      )
 
   reckoned_from : (op : AssignOperator) → ((b : CExpr) (t : CType) → IsReckoned x b t → IsAssignment structs op x b t) → (v : CExpr) → reckoned at op x (decayed y) ≡ Ok v → OfAssign structs at op x y v
   unfolding reckoned
@@ -272,7 +274,7 @@ passed_from line (t ∷ ts) (x ∷ xs) vs written is =
     let first = given_from line t x v.0 written.0 v.1 in
     let rest = passed_from line ts xs ws.0 written.1 ws.1 in
     subst (λ es. OfPassed (t ∷ ts) (x ∷ xs) es) (same_ok (CExprs.more v.0 ws.0) vs ws.2)
-      (record { become = BecomeAll.more first.becomes rest.become; given = (first.given, rest.given) })
+    (record { become = BecomeAll.more first.becomes rest.become; given = (first.given, rest.given) })
 
 -- what a call gives
 pub record OfCall (at : At) (called : Called) (result : CType) (params : List CType) (xs : List CExpr) (v : CExpr) : Type 0 where

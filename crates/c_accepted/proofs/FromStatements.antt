@@ -34,7 +34,7 @@ from_initialized_local s at k t equals None r is = subst (λ q. MayInitializeLoc
 from_initialized_local s at k t equals (Some i) r is =
     let v = bound (initialized false s at.line t i) _ r is in
     subst (λ q. MayInitializeLocal s at k t equals (Some i) q.0 q.1) (same_ok (record { at = at; local = k; initializer = Some (record { at = equals; value = v.0.0 }) }, v.0.1) r v.2)
-      (MayInitializeLocal.initializer (from_initialized false s at.line t i v.0 v.1))
+    (MayInitializeLocal.initializer (from_initialized false s at.line t i v.0 v.1))
 
 from_local : (base : CType) (s : CScene) (d : InitDeclaratorTree) (r : CDeclaration × CScene) → local s base d ≡ Ok r → DeclaresLocal base s d r.0 r.1
 from_local base s d r is =
@@ -42,7 +42,7 @@ from_local base s d r is =
     let free = passes (is_taken ps.0.1 (declared_name d.declarator)) _ _ r ps.2 in
     let t = bound (object_type ps.0.1.structs (declarator_at d.declarator).line base (completed base d.initializer ps.0.0)) _ r free.1 in
     DeclaresLocal.local (from_whole s d.declarator ps.0 ps.1) free.0 (object_is ps.0.1.structs (declarator_at d.declarator).line base t.0 (completed base d.initializer ps.0.0) t.1)
-      (from_initialized_local (with_local ps.0.1 (declared_name d.declarator) t.0) (declarator_at d.declarator) (length ps.0.1.locals) t.0 d.at d.initializer r t.2)
+    (from_initialized_local (with_local ps.0.1 (declared_name d.declarator) t.0) (declarator_at d.declarator) (length ps.0.1.locals) t.0 d.at d.initializer r t.2)
 
 record LocalsAre (base : CType) (s : CScene) (ds : List InitDeclaratorTree) (done : List CDeclaration) (r : List CDeclaration × CScene) : Type 0 where
   these : List CDeclaration
@@ -130,7 +130,7 @@ mutual
       let y = bound (statement a c.0.1 x) _ r c.2 in
       let w = bound (statement a y.0.1 z) _ r y.2 in
       subst (Is a s (StatementTree.IfElse at e x z)) (same_ok (CStmt.IfElse at c.0.0 y.0.0 w.0.0, w.0.1) r w.2)
-        (AcceptsStatement.if_else (from_condition s at.line e c.0 c.1) (from_statement a c.0.1 x y.0 y.1) (from_statement a y.0.1 z w.0 w.1))
+      (AcceptsStatement.if_else (from_condition s at.line e c.0 c.1) (from_statement a c.0.1 x y.0 y.1) (from_statement a y.0.1 z w.0 w.1))
   from_statement a s (StatementTree.While at e x) r is =
       let c = bound (condition s at.line e) _ r is in
       let y = bound (statement (within_loop a) c.0.1 x) _ r c.2 in
@@ -145,8 +145,8 @@ mutual
       let v = bound (if_any evaluated c.0.1 step) _ r c.2 in
       let y = bound (statement (within_loop a) v.0.1 x) _ r v.2 in
       subst (Is a s (StatementTree.For at from e step x)) (same_ok (CStmt.For at f.0.0 c.0.0 v.0.0 y.0.0, closed y.0.1) r y.2)
-        (AcceptsStatement.for_loop (from_start (opened s) from f.0 f.1) (from_if_any Tests (λ u. condition u at.line) (λ s x r h. from_condition s at.line x r h) f.0.1 e c.0 c.1)
-          (from_if_any Evaluates evaluated from_evaluated c.0.1 step v.0 v.1) (from_statement (within_loop a) v.0.1 x y.0 y.1))
+      (AcceptsStatement.for_loop (from_start (opened s) from f.0 f.1) (from_if_any Tests (λ u. condition u at.line) (λ s x r h. from_condition s at.line x r h) f.0.1 e c.0 c.1)
+      (from_if_any Evaluates evaluated from_evaluated c.0.1 step v.0 v.1) (from_statement (within_loop a) v.0.1 x y.0 y.1))
   from_statement a s (StatementTree.Break at) r is =
       let h = passes (not a.in_loop) _ _ r is in
       subst (Is a s (StatementTree.Break at)) (same_ok (CStmt.Break at, s) r h.1) (AcceptsStatement.break_loop (not_false _ h.0))
@@ -160,7 +160,7 @@ mutual
       let y = bound (items a [] s xs) _ r is in
       let all = from_items a [] s xs y.0 y.1 in
       subst (λ q. AcceptsBlock a s (BlockTree.block at xs) q.0 q.1) (same_ok (CStmt.Block at (stmts y.0.0), y.0.1) r y.2)
-        (AcceptsBlock.in_braces (subst (λ l. AcceptsItems a s xs l y.0.1) (sym all.is) all.accepts))
+      (AcceptsBlock.in_braces (subst (λ l. AcceptsItems a s xs l y.0.1) (sym all.is) all.accepts))
 
   pub from_items : (a : CAround) (done : List CStmt) (s : CScene) (xs : BlockItemTrees) (r : List CStmt × CScene) → items a done s xs ≡ Ok r → ItemsAre a s xs done r
   from_items a done s BlockItemTrees.none r is = subst (ItemsAre a s BlockItemTrees.none done) (same_ok (done, s) r is) (record { these = []; is = sym (append-nil done); accepts = AcceptsItems.no_item })

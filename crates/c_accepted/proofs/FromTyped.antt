@@ -186,7 +186,7 @@ mutual
       let x = bound (sized ps s es) _ r is in
       let sizes = from_sized ps s es x.0 x.1 in
       subst (StepsAre s (TypeDeclaratorTree.Direct at n es) ps) (same_ok (pointed x.0.0 n, x.0.1) r x.2)
-        (record { these = pointed sizes.these n; is = ap (λ l. pointed l n) sizes.is ∙ past_pointers ps sizes.these n; has = HasSteps.direct sizes.has })
+      (record { these = pointed sizes.these n; is = ap (λ l. pointed l n) sizes.is ∙ past_pointers ps sizes.these n; has = HasSteps.direct sizes.has })
   from_steps ps s (TypeDeclaratorTree.Nested at n inner es) r is =
       let x = bound (steps_of ps s inner) _ r is in
       let y = bound (sized x.0.0 x.0.1 es) _ r x.2 in
@@ -194,7 +194,7 @@ mutual
       let sizes = from_sized x.0.0 x.0.1 es y.0 y.1 in
       let all : y.0.0 ≡ (ps ++ steps.these) ++ sizes.these = sizes.is ∙ ap (λ l. l ++ sizes.these) steps.is in
       subst (StepsAre s (TypeDeclaratorTree.Nested at n inner es) ps) (same_ok (pointed y.0.0 n, y.0.1) r y.2)
-        (record { these = pointed (steps.these ++ sizes.these) n; is = ap (λ l. pointed l n) all ∙ past_both ps steps.these sizes.these n; has = HasSteps.nested steps.has sizes.has })
+      (record { these = pointed (steps.these ++ sizes.these) n; is = ap (λ l. pointed l n) all ∙ past_both ps steps.these sizes.these n; has = HasSteps.nested steps.has sizes.has })
 
   from_sized : (ps : List CPart) (s : CScene) (es : ExpressionTrees) (r : List CPart × CScene) → sized ps s es ≡ Ok r → SizesAre s es ps r
   from_sized ps s ExpressionTrees.none r is = subst (SizesAre s ExpressionTrees.none ps) (same_ok (ps, s) r is) (record { these = []; is = sym (append-nil ps); has = HasSizes.no_size })

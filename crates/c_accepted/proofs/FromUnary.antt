@@ -91,7 +91,7 @@ tested_from line x v written is =
     let passed = passes _ _ _ v is in
     let value = decayed_value x written in
     subst (λ e. OfTested x e) (same_ok (decayed x) v passed.1)
-      (record { becomes = value.becomes; condition = record { plain = value.plain; scalar = not_false _ passed.0 } })
+    (record { becomes = value.becomes; condition = record { plain = value.plain; scalar = not_false _ passed.0 } })
 
 module _ (structs : List CStruct) (at : At) where
   signed_from : (op : UnaryOperator) → ((e : CExpr) (t : CType) → IsSigned e t → IsUnary structs op e t) → (x v : CExpr) → IsWritten x → signed at op x ≡ Ok v → OfUnary structs at op x v

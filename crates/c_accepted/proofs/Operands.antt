@@ -128,8 +128,8 @@ array_or P (CExpr.expr at (CType.Pointer t) form) other array = other refl
 pub number_self : (x : CExpr) → IsNumber (type_of (decayed x)) → decayed x ≡ x
 number_self x number =
     array_or (λ e. IsNumber (type_of (decayed e)) → decayed e ≡ e) x
-      (λ flat n. decayed_flat x flat)
-      (λ u n is h. let no : IsNumber (CType.Pointer u) = subst (λ e. IsNumber (type_of e)) (decayed_array x u n is) h in absurd cc) number
+    (λ flat n. decayed_flat x flat)
+    (λ u n is h. let no : IsNumber (CType.Pointer u) = subst (λ e. IsNumber (type_of e)) (decayed_array x u n is) h in absurd cc) number
 
 pub flat_value : (x : CExpr) → IsWritten x → is_array (type_of x) ≡ false → IsValue x x
 flat_value x written flat = record { becomes = Becomes.itself; plain = plain_of x written flat; self = self_of x written }
@@ -144,8 +144,8 @@ array_value x u n written is = record {
 pub decayed_value : (x : CExpr) → IsWritten x → IsValue x (decayed x)
 decayed_value x written =
     array_or (λ e. IsWritten e → IsValue e (decayed e)) x
-      (λ flat w. subst (λ d. IsValue x d) (sym (decayed_flat x flat)) (flat_value x w flat))
-      (λ u n is w. subst (λ d. IsValue x d) (sym (decayed_array x u n is)) (array_value x u n w is)) written
+    (λ flat w. subst (λ d. IsValue x d) (sym (decayed_flat x flat)) (flat_value x w flat))
+    (λ u n is w. subst (λ d. IsValue x d) (sym (decayed_array x u n is)) (array_value x u n w is)) written
 
 -- what an operand can have become
 
@@ -321,12 +321,12 @@ pointer_is x a read becomes pointer = by a (shape x a becomes) pointer
 
     by : (a : CExpr) → Shape x a → IsPointer (type_of a) → IsPointerOf (decayed x) a
     by a Shape.same_one p = to x x (sym (decayed_flat x (pointer_flat (type_of x) p)))
-      (record { is = sym (pointer_same (type_of x) x refl); own = self_of x read.written; may = may_same (type_of x) x refl })
+        (record { is = sym (pointer_same (type_of x) x refl); own = self_of x read.written; may = may_same (type_of x) x refl })
     by a (Shape.from_array u n h) p = to _ _ (sym (decayed_array x u n h))
-      (record { is = sym (pointer_same (CType.Pointer u) (converted ArrayToPointer (CType.Pointer u) x) refl); own = refl; may = may_same (CType.Pointer u) (converted ArrayToPointer (CType.Pointer u) x) refl })
+        (record { is = sym (pointer_same (CType.Pointer u) (converted ArrayToPointer (CType.Pointer u) x) refl); own = refl; may = may_same (CType.Pointer u) (converted ArrayToPointer (CType.Pointer u) x) refl })
     by a (Shape.from_number u b c d) p = let no = no_number u p in absurd cc
     by a (Shape.from_null u b c d) p = to x _ (sym (decayed_flat x (read.flat b)))
-      (record { is = sym (pointer_null u x d b); own = refl; may = may_null u x b })
+        (record { is = sym (pointer_null u x d b); own = refl; may = may_null u x b })
     by a (Shape.from_pointer u e b c f g h i) p = to e _ b (record { is = sym (pointer_other u e i c); own = refl; may = may_void u e f h })
 
 pub pointer_becomes : (t : CType) (x d : CExpr) → IsValue x d → IsPointer t → may_point t d ≡ true → Becomes x (as_pointer t d)

@@ -26,8 +26,8 @@ arguments_fail_at_first s es e =
     let first = arguments_first [] s es e in
     record {
       forward = λ is.
-        let f = first.forward is in
-        record { front = f.front; next = f.next; rest = f.rest; parts = f.parts; state = f.state.1; accepted = (f.state.0, (arguments_are_typed s (listed f.front) f.state.0 f.state.1).backward f.accepted); refused = f.refused };
+          let f = first.forward is in
+          record { front = f.front; next = f.next; rest = f.rest; parts = f.parts; state = f.state.1; accepted = (f.state.0, (arguments_are_typed s (listed f.front) f.state.0 f.state.1).backward f.accepted); refused = f.refused };
       backward = λ f. first.backward (record {
         front = f.front;
         next = f.next;
@@ -53,9 +53,9 @@ items_fail_at_first a s xs e =
     let first = items_first a [] s xs e in
     record {
       forward = λ is.
-        let f = first.forward is in
-        let all = from_items a [] s (listed_items f.front) f.state f.accepted in
-        record { front = f.front; next = f.next; rest = f.rest; parts = f.parts; state = f.state.1; accepted = (all.these, all.accepts); refused = item_behind a f.state.0 [] f.state.1 f.next e f.refused };
+          let f = first.forward is in
+          let all = from_items a [] s (listed_items f.front) f.state f.accepted in
+          record { front = f.front; next = f.next; rest = f.rest; parts = f.parts; state = f.state.1; accepted = (all.these, all.accepts); refused = item_behind a f.state.0 [] f.state.1 f.next e f.refused };
       backward = λ f. first.backward (record {
         front = f.front;
         next = f.next;

@@ -1,7 +1,9 @@
 -- Acceptance and typing say the same.
-use Rattle.std.proofs.Common.{[], sym, subst}
+use Rattle.std.proofs.Common.{[], sym, ◌∙◌, subst}
+use Rattle.c_typing.specs.Laws.{FilesAreTyped}
 use Rattle.c_accepted.specs.AcceptanceExpressions.{AcceptsAll}
-use Rattle.c_accepted.specs.AcceptanceLaws.{ExpressionsAreTyped, ArgumentsAreTyped, TypeNamesAreTyped, StructsAreTyped, InitializersAreTyped, StatementsAreTyped, ExternalsAreTyped, AcceptedIsTyped}
+use Rattle.c_accepted.specs.AcceptanceLaws.{ExpressionsAreTyped, ArgumentsAreTyped, TypeNamesAreTyped, StructsAreTyped, InitializersAreTyped, StatementsAreTyped, ExternalsAreTyped, AcceptedIsTyped, AcceptedAsOne, AcceptedKeepsRules}
+use Rattle.c_accepted.proofs.Steps.{same_ok}
 use Rattle.c_accepted.proofs.ToTyped.{to_typed, to_typed_all, to_type_named}
 use Rattle.c_accepted.proofs.FromTyped.{from_typed, from_typed_all, from_type_named}
 use Rattle.c_accepted.proofs.ToDeclarators.{to_struct}
@@ -39,3 +41,9 @@ externals_are_typed numbers f e g = record { forward = λ a. to_external numbers
 
 pub accepted_is_typed : AcceptedIsTyped
 accepted_is_typed u p = record { forward = λ a. to_unit u p a; backward = λ is. from_unit u p is }
+
+pub accepted_as_one : AcceptedAsOne
+accepted_as_one u p q first second = same_ok p q (sym (to_unit u p first) ∙ to_unit u q second)
+
+pub accepted_keeps_rules : FilesAreTyped → AcceptedKeepsRules
+accepted_keeps_rules typed u p range accepted = typed u p range (to_unit u p accepted)

@@ -58,8 +58,8 @@ module _ (structs : List CStruct) (at : At) (x y a b : CExpr) (t : CType) (x_rea
       let one : type_of (decayed x) ≡ type_of (decayed y) = ap type_of (sym p) ∙ are.one_type ∙ ap type_of q in
       let pointer = points_pointer structs _ to in
       left_out _ _ _ _ (no_left (is_number (type_of (decayed x))) (is_number (type_of (decayed y))) (no_number _ pointer))
-        (left_out _ _ _ _ (no_right (points_to_complete structs (type_of (decayed x))) (is_number (type_of (decayed y))) (no_number _ (subst (λ u. IsPointer u) one pointer)))
-          (taken _ _ _ _ (both_true _ _ to (same_of _ _ one)) (ok_binary at binary.Subtract t _ a b _ _ are.result p q)))
+      (left_out _ _ _ _ (no_right (points_to_complete structs (type_of (decayed x))) (is_number (type_of (decayed y))) (no_number _ (subst (λ u. IsPointer u) one pointer)))
+      (taken _ _ _ _ (both_true _ _ to (same_of _ _ one)) (ok_binary at binary.Subtract t _ a b _ _ are.result p q)))
 
   subtracted_to : AreSubtracted structs a b t → subtracted structs at (decayed x) (decayed y) ≡ Ok (CExpr.expr at t (CForm.Binary binary.Subtract a b))
   unfolding subtracted
@@ -82,7 +82,7 @@ module _ (structs : List CStruct) (at : At) (x y a b : CExpr) (t : CType) (x_rea
       let to : IsPointer (type_of (decayed x)) = subst (λ e. IsPointer (type_of e)) p pointer in
       let one : type_of (decayed x) ≡ type_of (decayed y) = ap type_of (sym p) ∙ one_type ∙ ap type_of q in
       left_out _ _ _ _ (no_left (is_number (type_of (decayed x))) (is_number (type_of (decayed y))) (no_number _ to))
-        (taken _ _ _ _ (both_true _ _ to (same_of _ _ one)) (ok_binary at op CType.Int CType.Int a b _ _ refl p q))
+      (taken _ _ _ _ (both_true _ _ to (same_of _ _ one)) (ok_binary at op CType.Int CType.Int a b _ _ refl p q))
 
   met_at : (op : BinaryOperator) (u : CType) (o : Option CType) → o ≡ Some u → AreMeetingOf (decayed x) (decayed y) a b u
       → equated_at at op (decayed x) (decayed y) o ≡ Ok (CExpr.expr at CType.Int (CForm.Binary op a b))

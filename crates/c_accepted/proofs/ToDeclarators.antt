@@ -50,7 +50,7 @@ to_parameters : (n : ℕ) (s : CScene) (ps : List ParameterTree) (xs : List CPar
 to_parameters n s ps xs u params count AreParameters.nothing = pair_is params (params ++ []) s (sym (append-nil params))
 to_parameters n s ps xs u params count (AreParameters.next one more) =
     onward _ _ _ _ (to_parameter params _ _ _ _ (numbered _ _ _ _ _ _ count one))
-      (to_parameters _ _ _ _ _ (params ++ _ ∷ []) (ap suc count ∙ sym (longer params _)) more ∙ pair_is _ _ u (past_one params _ _))
+    (to_parameters _ _ _ _ _ (params ++ _ ∷ []) (ap suc count ∙ sym (longer params _)) more ∙ pair_is _ _ u (past_one params _ _))
 
 to_parameter_list : (s : CScene) (o : Option ParametersTree) (xs : List CParam) (u : CScene) → HasParameters s o xs u → parameters_of s o ≡ Ok (xs, u)
 to_parameter_list s o xs u HasParameters.empty = refl
@@ -76,7 +76,7 @@ to_members : (base : CType) (ms : List CDraft) (s : CScene) (ds : List Declarato
 to_members base ms s ds all u HaveMembers.nothing = refl
 to_members base ms s (d ∷ ds) all u (HaveMembers.next steps free type more) =
     onward _ _ _ _ (onward _ _ _ _ (to_declarator _ _ _ _ [] steps) (passed _ _ _ _ free (onward _ _ _ _ (object_to _ (declarator_at d).line base _ _ type) refl)))
-      (to_members base _ _ _ _ _ more)
+    (to_members base _ _ _ _ _ more)
 
 to_member_lists : (ms : List CDraft) (s : CScene) (ds : List MemberDeclarationTree) (all : List CDraft) (u : CScene) → HaveMemberLists ms s ds all u → member_lists ms s ds ≡ Ok (all, u)
 to_member_lists ms s ds all u HaveMemberLists.nothing = refl

@@ -67,19 +67,19 @@ module _ (numbers : CDefinitions) where
       → breaks_main x result params || not (is_again f.scene.functions (found x f.scene.names) result (param_types params)) ≡ false
   last f x params t result is main again =
       no_or _ _ (subst (λ r. breaks_main x r params ≡ false) (sym is) main)
-        (subst (λ r. not (is_again f.scene.functions (found x f.scene.names) r (param_types params)) ≡ false) (sym is) (ap not again))
+      (subst (λ r. not (is_again f.scene.functions (found x f.scene.names) r (param_types params)) ≡ false) (sym is) (ap not again))
 
   function_type_to : (f : CFile) (line : ℕ) (x : List ℕ) (base : CType) (params : List CParam) (ps : List CPart) (defines : Bool) (t : CType) → IsFunction f x base params ps defines t
       → function_type f line x base params ps defines false ≡ Ok t
   function_type_to f line x base params ps defines t is =
       let tests = tests_of f.scene.structs line false base t ps (record { made = is.result; complete = λ h. absurd cc }) in
       passed _ _ _ _ (no_or (nat_lt 8 (length params)) _ (few_or (length params) is.few_params) tests.few)
-        (passed _ _ _ _ (fewer defines (length f.functions) is.few_functions)
-          (passed _ _ _ _ tests.complete
-            (passed _ _ _ _ (no_or (has_function ps || gives_aggregate base ps) _ (no_or (has_function ps) _ tests.no_function is.no_aggregate) is.no_structs)
-              (passed _ _ _ _ tests.sized
-                (passed _ _ _ _ (last f x params t _ tests.made (main_to x t params is.main) (again_to _ _ t _ is.again))
-                  (named_to defines (unnamed params) _ t tests.made is.named))))))
+      (passed _ _ _ _ (fewer defines (length f.functions) is.few_functions)
+      (passed _ _ _ _ tests.complete
+      (passed _ _ _ _ (no_or (has_function ps || gives_aggregate base ps) _ (no_or (has_function ps) _ tests.no_function is.no_aggregate) is.no_structs)
+      (passed _ _ _ _ tests.sized
+      (passed _ _ _ _ (last f x params t _ tests.made (main_to x t params is.main) (again_to _ _ t _ is.again))
+      (named_to defines (unnamed params) _ t tests.made is.named))))))
 
   function_to : (f : CFile) (at : At) (x : List ℕ) (base : CType) (params : List CParam) (ps : List CPart) (defines : Bool) (t : CType) → IsFunction f x base params ps defines t
       → declared_function numbers f at x base params ps defines false ≡ Ok (t, with_it numbers f at x t params defines)
@@ -100,8 +100,8 @@ module _ (numbers : CDefinitions) where
   to_defined : (base : CType) (f : CFile) (d : DeclaratorTree) (body : BlockTree) (g : CFile) → Defines numbers base f d body g → defined numbers f base d body ≡ Ok g
   to_defined base f d body g (Defines.function steps is same block) =
       onward _ _ _ _ (to_declarator _ _ _ _ [] steps)
-        (onward _ _ _ _ (function_to _ (declarator_at d) (declared_name d) base _ _ true _ is)
-          (body_to _ _ (declarator_at d) (declared_name d) _ _ body _ _ same block))
+      (onward _ _ _ _ (function_to _ (declarator_at d) (declared_name d) base _ _ true _ is)
+      (body_to _ _ (declarator_at d) (declared_name d) _ _ body _ _ same block))
     where
       body_to : (g h : CFile) (at : At) (x : List ℕ) (t : CType) (params : List CParam) (body : BlockTree) (y : CStmt) (w : CScene) → g ≡ h → AcceptsBlock (record { result = t; in_loop = false }) (begun g.scene params) body y w
           → defined_function h at x t params body ≡ Ok (record g {
@@ -110,7 +110,7 @@ module _ (numbers : CDefinitions) where
           })
       body_to g h at x t params body y w same block = rw (sym same) (onward _ _ _ _ (to_block _ _ body y w block) refl)
 
-  to_headed : (s : CScene) (head : HeadTree) (base : CType) (u : CScene) → Heads numbers s head base u → headed s head ≡ Ok (base, u)
+  to_headed : (s : CScene) (head : HeadTree) (base : CType) (u : CScene) → Heads s head base u → headed s head ≡ Ok (base, u)
   to_headed s head base u Heads.specifier = refl
   to_headed s head base u (Heads.struct is) = onward _ _ _ _ (to_struct s _ _ u is) refl
 
@@ -125,4 +125,4 @@ module _ (numbers : CDefinitions) where
 pub to_unit : (u : UnitTree) (p : CProgram) → AcceptsUnit u p → typed_unit u ≡ Ok p
 to_unit u p (AcceptsUnit.unit {f = f} is defined main) =
     onward _ _ _ _ (to_externals _ _ _ f is)
-      (onward _ _ _ _ (ap all_defined (defined_to f.scene.functions f.scene.called defined)) (onward _ _ _ _ (ap main_or_none main) refl))
+    (onward _ _ _ _ (ap all_defined (defined_to f.scene.functions f.scene.called defined)) (onward _ _ _ _ (ap main_or_none main) refl))

@@ -60,8 +60,8 @@ module _ (is_global : Bool) where
     pub to_initial : (s : CScene) (line : ℕ) (t : CType) (i : InitializerTree) (v : CInitial) (u : CScene) → Initializes is_global s t i v u → initial is_global s line t i ≡ Ok (v, u)
     to_initial s line t (InitializerTree.Expression e) v u (Initializes.value {x = x} {v = w} a b g ok) =
         no_string s line t e _ x w u (scalar_string t e g.1) (to_typed _ _ _ _ a) g.1
-          (onward _ _ _ _ (to_typed _ _ _ _ a) (left_out _ _ _ _ (no_aggregate t g.1)
-            (onward _ _ _ _ (given_to line t _ _ (reads _ _ _ _ a) b g) (onward _ _ _ _ (allowed_to u.structs line _ ok) refl))))
+        (onward _ _ _ _ (to_typed _ _ _ _ a) (left_out _ _ _ _ (no_aggregate t g.1)
+        (onward _ _ _ _ (given_to line t _ _ (reads _ _ _ _ a) b g) (onward _ _ _ _ (allowed_to u.structs line _ ok) refl))))
     to_initial s line t i v u (Initializes.string is) = rw is.array (passed _ _ _ _ (no_less _ _ is.room) refl)
     to_initial s line t i v u (Initializes.braces is parts) = taken _ _ _ _ is (onward _ _ _ _ (to_initials s line t _ _ _ _ [] parts) refl)
 
@@ -93,5 +93,5 @@ module _ (is_global : Bool) where
       let struct : is_struct (type_of x) ≡ true = subst (λ w. is_struct w ≡ true) (sym is.same_struct) is.struct in
       let no = struct_no_array (type_of x) struct in
       taken _ _ _ _ is.struct
-        (onward _ _ _ _ (to_typed _ _ _ _ a) (passed _ _ _ _ no.1
-          (onward _ _ x _ (ap (allowed is_global u.structs line) (decayed_flat x no.0) ∙ allowed_to u.structs line x ok) (onward _ _ _ _ (copied_self line t x is) refl))))
+      (onward _ _ _ _ (to_typed _ _ _ _ a) (passed _ _ _ _ no.1
+      (onward _ _ x _ (ap (allowed is_global u.structs line) (decayed_flat x no.0) ∙ allowed_to u.structs line x ok) (onward _ _ _ _ (copied_self line t x is) refl))))

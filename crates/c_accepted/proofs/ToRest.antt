@@ -59,7 +59,7 @@ module _ (at : At) (d x y a b : CExpr) (t : CType) (x_read : IsRead x) (y_read :
       let m : type_of (decayed x) ≡ CType.Void = ap type_of (sym p) ∙ first in
       let n : type_of (decayed y) ≡ CType.Void = ap type_of (sym q) ∙ second in
       left_out _ _ _ _ (no_left (is_number (type_of (decayed x))) (is_number (type_of (decayed y))) (ap is_number m))
-        (taken _ _ _ _ (both_true _ _ (ap is_void m) (ap is_void n)) (ok_choice CType.Void _ _ result p q))
+      (taken _ _ _ _ (both_true _ _ (ap is_void m) (ap is_void n)) (ok_choice CType.Void _ _ result p q))
 
   pub conditional_to : (c : CExpr) → IsRead c → Becomes c d → IsCondition d → AreAlternatives a b t → conditional_rule at c x y ≡ Ok (CExpr.expr at t (CForm.Conditional d a b))
   unfolding conditional_rule
@@ -86,7 +86,7 @@ given_to line t x v read becomes is = by (or_cases (is_number t) (is_pointer t) 
     by (inr pointer) =
         let of = pointer_is x v read becomes (rw is.0 pointer) in
         left_out _ _ _ _ (no_left (is_number t) (is_number (type_of (decayed x))) (no_number t pointer))
-          (taken _ _ _ _ (both_true _ _ pointer (subst (λ u. may_point u (decayed x) ≡ true) is.0 of.may)) (ap Ok (sym (of.is ∙ ap (λ u. as_pointer u (decayed x)) is.0))))
+        (taken _ _ _ _ (both_true _ _ pointer (subst (λ u. may_point u (decayed x) ≡ true) is.0 of.may)) (ap Ok (sym (of.is ∙ ap (λ u. as_pointer u (decayed x)) is.0))))
 
 -- assignments
 
@@ -157,7 +157,7 @@ module _ (structs : List CStruct) (at : At) (x y b : CExpr) (t : CType) (x_read 
       let flat : decayed x ≡ x = decayed_flat x assignable.no_array in
       let m = move_is structs x y x b t x_read.written y_read.written Becomes.itself right is in
       left_out _ _ _ _ (subst (λ e. both_numbers e (decayed y) ≡ false) flat m.no_numbers)
-        (taken _ _ _ _ (subst (λ e. is_move structs e (decayed y) ≡ true) flat m.move) (ok_set op (type_of x) _ is.result m.number))
+      (taken _ _ _ _ (subst (λ e. is_move structs e (decayed y) ≡ true) flat m.move) (ok_set op (type_of x) _ is.result m.number))
 
   assigned_to : (op : AssignOperator) → IsAssignment structs op x b t → IsAssignable x × (assigned_by structs at op x y ≡ Ok (CExpr.expr at t (CForm.Assign op x b)))
   assigned_to assign.Assign is = (by is, set_to_it is)

@@ -28,7 +28,7 @@ to_initialized_local s at k t equals i v u (MayInitializeLocal.initializer is) =
 to_local : (base : CType) (s : CScene) (d : InitDeclaratorTree) (v : CDeclaration) (u : CScene) → DeclaresLocal base s d v u → local s base d ≡ Ok (v, u)
 to_local base s d v u (DeclaresLocal.local steps free type is) =
     onward _ _ _ _ (to_declarator _ _ _ _ [] steps) (passed _ _ _ _ free
-      (onward _ _ _ _ (object_to _ (declarator_at d.declarator).line base _ _ type) (to_initialized_local _ _ _ _ _ _ _ _ is)))
+    (onward _ _ _ _ (object_to _ (declarator_at d.declarator).line base _ _ type) (to_initialized_local _ _ _ _ _ _ _ _ is)))
 
 to_locals : (base : CType) (s : CScene) (ds : List InitDeclaratorTree) (vs : List CDeclaration) (u : CScene) (done : List CDeclaration) → DeclareLocals base s ds vs u → locals done s base ds ≡ Ok (done ++ vs, u)
 to_locals base s ds vs u done DeclareLocals.nothing = pair_is done (done ++ []) s (sym (append-nil done))
@@ -77,7 +77,7 @@ mutual
   to_statement a s x y u (AcceptsStatement.do_loop is c) = onward _ _ _ _ (to_statement (within_loop a) _ _ _ _ is) (onward _ _ _ _ (to_condition _ _ _ _ _ c) refl)
   to_statement a s x y u (AcceptsStatement.for_loop {at = at} from c step is) =
       onward _ _ _ _ (to_start _ _ _ _ from) (onward _ _ _ _ (to_if_any Tests (λ u. condition u at.line) (λ s x y u h. to_condition s at.line x y u h) _ _ _ _ c)
-        (onward _ _ _ _ (to_if_any Evaluates evaluated to_evaluated _ _ _ _ step) (onward _ _ _ _ (to_statement (within_loop a) _ _ _ _ is) refl)))
+      (onward _ _ _ _ (to_if_any Evaluates evaluated to_evaluated _ _ _ _ step) (onward _ _ _ _ (to_statement (within_loop a) _ _ _ _ is) refl)))
   to_statement a s x y u (AcceptsStatement.break_loop is) = passed _ _ _ _ (not_of _ is) refl
   to_statement a s x y u (AcceptsStatement.continue_loop is) = passed _ _ _ _ (not_of _ is) refl
   to_statement a s x y u (AcceptsStatement.return_nothing is) = passed _ _ _ _ (not_of (is_void a.result) (ap is_void is)) refl

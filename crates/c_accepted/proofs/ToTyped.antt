@@ -90,7 +90,7 @@ mutual
   to_typed s e v u (Accepts.parenthesized a) = to_typed _ _ _ _ a
   to_typed s e v u (Accepts.index a b l r is) =
       onward _ _ _ _ (to_typed _ _ _ _ a) (onward _ _ _ _ (to_typed _ _ _ _ b)
-        (onward _ _ _ _ (index_to u.structs _ _ (reads _ _ _ _ a) _ _ _ _ (reads _ _ _ _ b) l r is) refl))
+      (onward _ _ _ _ (index_to u.structs _ _ (reads _ _ _ _ a) _ _ _ _ (reads _ _ _ _ b) l r is) refl))
   to_typed s e v u (Accepts.call none is all found become given) =
       onward _ _ _ _ (callee_function s _ _ _ none is) (onward _ _ _ _ (to_typed_all _ _ _ _ [] all) (function_to _ _ _ _ _ _ found (reads_all _ _ _ _ all) become given))
   to_typed s e v u (Accepts.library_call none no_name is all become given) =
@@ -113,16 +113,16 @@ mutual
       onward _ _ _ _ (to_type_named _ _ _ _ t) (onward _ _ _ _ (to_typed _ _ _ _ a) (onward _ _ _ _ (cast_to _ _ _ _ (reads _ _ _ _ a) b is) refl))
   to_typed s e v u (Accepts.binary a b l r is) =
       onward _ _ _ _ (to_typed _ _ _ _ a) (onward _ _ _ _ (to_typed _ _ _ _ b)
-        (onward _ _ _ _ (binary_to u.structs _ _ _ _ _ _ (reads _ _ _ _ a) (reads _ _ _ _ b) l r _ is) refl))
+      (onward _ _ _ _ (binary_to u.structs _ _ _ _ _ _ (reads _ _ _ _ a) (reads _ _ _ _ b) l r _ is) refl))
   to_typed s e v u (Accepts.conditional c a b k l r d is) =
       onward _ _ _ _ (to_typed _ _ _ _ c) (onward _ _ _ _ (to_typed _ _ _ _ a) (onward _ _ _ _ (to_typed _ _ _ _ b)
-        (onward _ _ _ _ (conditional_to _ _ _ _ _ _ _ (reads _ _ _ _ a) (reads _ _ _ _ b) l r _ (reads _ _ _ _ c) k d is) refl)))
+      (onward _ _ _ _ (conditional_to _ _ _ _ _ _ _ (reads _ _ _ _ a) (reads _ _ _ _ b) l r _ (reads _ _ _ _ c) k d is) refl)))
   to_typed s e v u (Accepts.assign a b r is) =
       onward _ _ _ _ (to_typed _ _ _ _ a) (onward _ _ _ _ (to_typed _ _ _ _ b)
-        (onward _ _ _ _ (assign_to u.structs _ _ _ _ _ (reads _ _ _ _ a) (reads _ _ _ _ b) r _ is) refl))
+      (onward _ _ _ _ (assign_to u.structs _ _ _ _ _ (reads _ _ _ _ a) (reads _ _ _ _ b) r _ is) refl))
   to_typed s e v u (Accepts.comma a b l r is) =
       onward _ _ _ _ (to_typed _ _ _ _ a) (onward _ _ _ _ (to_typed _ _ _ _ b)
-        (pair_is _ _ u (comma_to _ _ _ _ _ _ (reads _ _ _ _ a) (reads _ _ _ _ b) l r is)))
+      (pair_is _ _ u (comma_to _ _ _ _ _ _ (reads _ _ _ _ a) (reads _ _ _ _ b) l r is)))
 
   pub to_typed_all : (s : CScene) (es : ExpressionTrees) (xs : List CExpr) (u : CScene) → (vs : List CExpr) → AcceptsAll s es xs u → typed_all vs s es ≡ Ok (vs ++ xs, u)
   to_typed_all s es xs u vs AcceptsAll.nothing = pair_is vs (vs ++ []) s (sym (append-nil vs))

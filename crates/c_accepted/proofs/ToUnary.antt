@@ -100,7 +100,7 @@ module _ (structs : List CStruct) (at : At) (x : CExpr) (read : IsRead x) where
       let p = promoted_is i b i_read.written right is.distance in
       let self = number_self i p.number in
       indexed_to i a b t same (p.is ∙ ap as_promoted self) (subst (λ e. IsNumber (type_of e)) self p.number) _
-        (element_to structs _ t (ap type_of (sym same) ∙ is.element.to) is.element.complete)
+      (element_to structs _ t (ap type_of (sym same) ∙ is.element.to) is.element.complete)
 
   in_it : (t : CType) (struct : ℕ) (name : List ℕ) (m : ℕ) (u : CType) → t ≡ CType.Struct struct → IsNamed structs struct name m u → member_in structs t name ≡ Some (m, u)
   in_it t struct name m u is named = rw is named

@@ -32,8 +32,7 @@ common_number t u = by (is_unsigned t || is_unsigned u)
 pub promotes : (y e : CExpr) → IsValue y e → IsNumber (type_of e) → Becomes y (as_promoted e) × IsPromoted (as_promoted e)
 unfolding as_promoted
 promotes y e value number =
-    let own = number_own (promoted (type_of e)) e value.self in
-    (
+    let own = number_own (promoted (type_of e)) e value.self in (
       number_becomes (promoted (type_of e)) y e value number (promoted_number (type_of e) number),
       (rw own number, number_type (promoted (type_of e)) e ∙ ap promoted (sym own)),
     )

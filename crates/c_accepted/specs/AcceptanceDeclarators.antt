@@ -65,7 +65,7 @@ pub data AreParameters : (number : ℕ) → (before : CScene) → List Parameter
   next : {n : ℕ} {s m u : CScene} {p : ParameterTree} {ps : List ParameterTree} {x : CParam} {xs : List CParam}
       → IsParameter n s p x m → AreParameters (suc n) m ps xs u → AreParameters n s (p ∷ ps) (x ∷ xs) u
 
--- 6.7.6.3 p10: `( )` and `(void)` have no parameters. Parameters have a scope of their own.
+-- 6.7.6.3 p10, p14: `( )` and `(void)` have no parameters. Parameters have a scope of their own.
 pub data HasParameters : (before : CScene) → Option ParametersTree → List CParam → (behind : CScene) → Type 0 where
   empty : {s : CScene} → HasParameters s None [] s
   void : {s : CScene} {at : At} → HasParameters s (Some (ParametersTree.Void at)) [] s
@@ -91,7 +91,7 @@ pub data HasDeclarator : (before : CScene) → DeclaratorTree → List CPart →
       → HasDeclarator s inner ps m → HaveSuffixes m suffixes qs u
       → HasDeclarator s (DeclaratorTree.Nested at n inner suffixes) (pointed (ps ++ qs) n) u
 
--- The members that declarators declare, with those before them: each has a name of its own (6.2.3 p1) and a complete type
+-- The members that declarators declare, with those before them: each has a name of its own (6.7 p3) and a complete type
 -- (6.7.2.1 p3).
 pub data HaveMembers (base : CType) : (done : List CDraft) → (before : CScene) → List DeclaratorTree → (all : List CDraft) → (behind : CScene) → Type 0 where
   nothing : {ms : List CDraft} {s : CScene} → HaveMembers base ms s [] ms s
@@ -120,7 +120,7 @@ IsAllowed is_global structs v = is_global ≡ true → IsTrue (is_some (value_by
 module _ (is_global : Bool) where
   mutual
     -- An initializer of the type: a value is given to a scalar (6.7.9 p11), a string fills an array of char (p14), and
-    -- braces have parts for the elements or members, in their order (p17).
+    -- braces have parts for elements or members, in their order (p16, p17) and no more than there are (p2).
     pub data Initializes : (before : CScene) → CType → InitializerTree → CInitial → (behind : CScene) → Type 0 where
       value : {s u : CScene} {t : CType} {e : ExpressionTree} {x v : CExpr}
           → Accepts s e x u → Becomes x v → IsGiven t v → IsAllowed is_global u.structs v

@@ -45,7 +45,7 @@ mutual
         → Accepts s (ExpressionTree.Number at n is_unsigned) (CExpr.expr at (if is_unsigned then CType.Unsigned else CType.Int) (CForm.Number n)) s
     character : {s : CScene} {at : At} {n : ℕ}
         → Accepts s (ExpressionTree.Character at n) (CExpr.expr at CType.Int (CForm.Character n)) s
-    -- 6.4.5 p6: a string is a new object of its bytes and a zero
+    -- 6.4.5 p6: a string is a new object of its bytes and a zero, and has not too many
     text : {s : CScene} {at : At} {pieces : List (List ℕ)}
         → length (joined pieces) + 1 ≤ largest
         → Accepts s (ExpressionTree.Text at pieces) (CExpr.expr at (CType.Array CType.Char (length (joined pieces) + 1)) (CForm.Text (length s.texts)))

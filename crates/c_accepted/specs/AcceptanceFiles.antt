@@ -50,6 +50,11 @@ pub record IsFunction (f : CFile) (x : List ℕ) (base : CType) (params : List C
   -- 6.9.1 p5: the parameters of a definition have names
   pub named : defines ≡ true → unnamed params ≡ None
 
+-- what a declaration begins with
+pub data Heads (s : CScene) : HeadTree → CType → (behind : CScene) → Type 0 where
+  specifier : {p : SpecifierTree} → Heads s (HeadTree.Specifier p) (based s p).0 (based s p).1
+  struct : {d : StructDefinitionTree} {k : ℕ} {u : CScene} → DefinesStruct s d k u → Heads s (HeadTree.Struct d) (CType.Struct k) u
+
 module _ (numbers : CDefinitions) where
   -- the file in which the function is declared, or defined
   abbrev pub with_it : CFile → At → List ℕ → CType → List CParam → (defines : Bool) → CFile
@@ -86,11 +91,6 @@ module _ (numbers : CDefinitions) where
             body = y;
           } ∷ [];
         })
-
-  -- what a declaration begins with
-  pub data Heads (s : CScene) : HeadTree → CType → (behind : CScene) → Type 0 where
-    specifier : {p : SpecifierTree} → Heads s (HeadTree.Specifier p) (based s p).0 (based s p).1
-    struct : {d : StructDefinitionTree} {k : ℕ} {u : CScene} → DefinesStruct s d k u → Heads s (HeadTree.Struct d) (CType.Struct k) u
 
   -- 6.9: one declaration of the file
   pub data AcceptsExternal (f : CFile) : ExternalTree → CFile → Type 0 where

@@ -2,8 +2,10 @@
 use Rattle.std.specs.Prelude.{ℕ, ◌≡◌, Bool, Some, None, Ok, Err, List, [], ◌∷◌, ◌++◌, codes}
 use Rattle.c_tree.specs.Syntax.{ExpressionTree, ExpressionTrees, TypeNameTree, InitializerTree, StructDefinitionTree, StatementTree, BlockItemTree, ExternalTree, UnitTree}
 use Rattle.c_tree.specs.SyntaxViews.{listed, listed_items}
+use Rattle.c_places.specs.InRange.{InRange}
 use Rattle.c_typed.specs.Types.{CType}
 use Rattle.c_typed.specs.TypedTree.{CExpr, CInitial, CStmt, CProgram}
+use Rattle.c_typed.specs.Typed.{Typed}
 use Rattle.c_rules.specs.declared.error.TypeError.{TypeError}
 use Rattle.c_rules.specs.declared.error.TypeError.TheVariants.{Unknown, NoMain}
 use Rattle.c_types.specs.Names.{found}
@@ -49,6 +51,14 @@ ExternalsAreTyped = (numbers : CDefinitions) (f : CFile) (e : ExternalTree) (g :
 -- A file is accepted as a program exactly where typing gives that program.
 abbrev pub AcceptedIsTyped : Type 0
 AcceptedIsTyped = (u : UnitTree) (p : CProgram) → BothWays (AcceptsUnit u p) (typed_unit u ≡ Ok p)
+
+-- A file is accepted as one program, though the rules have no order.
+abbrev pub AcceptedAsOne : Type 0
+AcceptedAsOne = (u : UnitTree) (p q : CProgram) → AcceptsUnit u p → AcceptsUnit u q → p ≡ q
+
+-- The program of an accepted file whose literals are those of their types keeps every rule of typing.
+abbrev pub AcceptedKeepsRules : Type 0
+AcceptedKeepsRules = (u : UnitTree) (p : CProgram) → InRange u → AcceptsUnit u p → Typed p
 
 -- Where a list is refused: all before one of it is accepted, as `before` says, and that one is refused, as `fails` says.
 -- What follows says nothing.

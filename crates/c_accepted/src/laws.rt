@@ -1,5 +1,7 @@
 //! The typing functions accept what the relation accepts.
-ghost use Rattle.c_accepted.specs.AcceptanceLaws.{ExpressionsAreTyped, ArgumentsAreTyped, TypeNamesAreTyped, StructsAreTyped, InitializersAreTyped, StatementsAreTyped, ExternalsAreTyped, AcceptedIsTyped, ArgumentsFailAtFirst, ItemsFailAtFirst, FilesFailAtFirst};
+ghost use Rattle.c_accepted.specs.AcceptanceLaws.{ExpressionsAreTyped, ArgumentsAreTyped, TypeNamesAreTyped, StructsAreTyped, InitializersAreTyped, StatementsAreTyped, ExternalsAreTyped, AcceptedIsTyped, AcceptedAsOne, AcceptedKeepsRules, ArgumentsFailAtFirst, ItemsFailAtFirst, FilesFailAtFirst};
+
+use c_typing::laws::files_are_typed;
 
 /// An expression is accepted as another where typing gives that one.
 pub fn expressions_are_typed()
@@ -40,6 +42,18 @@ pub fn externals_are_typed()
 pub fn accepted_is_typed()
     ensures { AcceptedIsTyped }
 {}
+
+/// A file is accepted as one program.
+pub fn accepted_as_one()
+    ensures { AcceptedAsOne }
+{}
+
+/// The program of an accepted file whose literals are those of their types keeps every rule of typing.
+pub fn accepted_keeps_rules()
+    ensures { AcceptedKeepsRules }
+{
+    files_are_typed();
+}
 
 /// The arguments of a call are refused where all before one are accepted and that one is refused.
 pub fn arguments_fail_at_first()
