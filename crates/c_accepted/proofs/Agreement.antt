@@ -6,7 +6,7 @@ use Rattle.c_rules.specs.Rule.{Rule}
 use Rattle.c_types.specs.Scene.{CEntry, CDeclared}
 use Rattle.c_types.specs.Parts.{CParam}
 use Rattle.c_typing.specs.Units.{is_main, same_types, agrees, is_again, has_none, breaks_main, named_unless, undefined}
-use Rattle.c_accepted.proofs.Steps.{some_is, and_left, and_right, both_true, not_of}
+use Rattle.c_accepted.proofs.Steps.{and_not, some_is, and_left, and_right, both_true, not_of}
 use Rattle.c_accepted.proofs.Operands.{same_is, same_of}
 
 -- the type that a function was declared with before
@@ -64,14 +64,9 @@ main_to x t params is = by (is_main x) is
 
 pub main_is : (x : List ℕ) (t : CType) (params : List CParam) → breaks_main x (Ok t) params ≡ false → is_main x ≡ true → (t ≡ CType.Int) × (params ≡ [])
 main_is x t params is main =
-    let h : same t CType.Int && has_none params ≡ true = sure (is_main x) _ main is in
+    let h : same t CType.Int && has_none params ≡ true = and_not (is_main x) _ main is in
     (same_is t CType.Int (and_left _ _ h), none params (and_right (same t CType.Int) _ h))
   where
-    sure : (b c : Bool) → b ≡ true → b && not c ≡ false → c ≡ true
-    sure true true h i = refl
-    sure true false h i = absurd cc
-    sure false c h i = absurd cc
-
     none : (ps : List CParam) → has_none ps ≡ true → ps ≡ []
     none [] h = refl
     none (p ∷ ps) h = absurd cc

@@ -19,7 +19,7 @@ use Rattle.c_types.specs.Statements.{block}
 use Rattle.c_typing.specs.Units.{CFile, CDefinitions, definitions, is_main, object_is_taken, function_is_taken, file_type, with_object, initialized_global, declared_object, gives_aggregate, takes_struct, param_types, is_again, breaks_main, unnamed, function_type, declared_function, declared_by, declared, all_declared, begun, defined_function, no_function, defined_by, defined, headed, external, externals, undefined, all_defined, main_or_none, empty_file, typed_unit}
 use Rattle.c_accepted.specs.AcceptanceDeclarators.{MakesObject, HasDeclarator}
 use Rattle.c_accepted.specs.AcceptanceFiles.{DeclaresObject, IsFunction, with_it, Declares, DeclareAll, Defines, Heads, AcceptsExternal, AcceptsExternals, AcceptsUnit}
-use Rattle.c_accepted.proofs.Steps.{passes, bound, same_ok, not_less}
+use Rattle.c_accepted.proofs.Steps.{not_false, passes, bound, same_ok, not_less}
 use Rattle.c_accepted.proofs.MadeTypes.{whole_of}
 use Rattle.c_accepted.proofs.FromDeclarators.{from_whole, from_struct}
 use Rattle.c_accepted.proofs.FromInitials.{from_initialized}
@@ -29,10 +29,6 @@ use Rattle.c_accepted.proofs.Agreement.{again_is, main_is, named_is, defined_is}
 none_left : (a b : Bool) → a || b ≡ false → (a ≡ false) × (b ≡ false)
 none_left true b h = absurd cc
 none_left false b h = (refl, h)
-
-no_not : (b : Bool) → not b ≡ false → b ≡ true
-no_not true h = refl
-no_not false h = absurd cc
 
 file_type_is : (structs : List CStruct) (line : ℕ) (main : Bool) (base t : CType) (ps : List CPart) → file_type structs line main base ps ≡ Ok t → (main ≡ false) × MakesObject structs base ps t
 file_type_is structs line main base t ps is =
@@ -85,7 +81,7 @@ function_type_is f line x base params ps defines has_initializer t is =
     let kinds = none_left (has_function ps || gives_aggregate base ps) (takes_struct params) d.0 in
     let last = none_left (breaks_main x (made f.scene.structs line base (reverse ps)) params) _ m.0 in
     let main = subst (λ r. breaks_main x r params ≡ false) n.0 last.0 in
-    let again = subst (λ r. is_again f.scene.functions (found x f.scene.names) r (param_types params) ≡ true) n.0 (no_not _ last.1) in
+    let again = subst (λ r. is_again f.scene.functions (found x f.scene.names) r (param_types params) ≡ true) n.0 (not_false _ last.1) in
     record {
       type = λ free. record {
         free = free;

@@ -16,7 +16,7 @@ use Rattle.c_types.specs.Scene.{CScene}
 use Rattle.c_types.specs.Expressions.{typed, joined}
 use Rattle.c_types.specs.Initializers.{value_bytes, allowed, string_of, room_of, aggregate_from, value_from, part_from, looked_at, all_looked_at, part_or_excess, initial, initials, struct_copied, initialized}
 use Rattle.c_accepted.specs.AcceptanceDeclarators.{IsAllowed, Initializes, InitializesParts, IsInitializedBy}
-use Rattle.c_accepted.proofs.Steps.{passes, bound, same_ok, not_less}
+use Rattle.c_accepted.proofs.Steps.{and_not, passes, bound, same_ok, not_less}
 use Rattle.c_accepted.proofs.Operands.{decayed_flat}
 use Rattle.c_accepted.proofs.FromRest.{given_from, copied_is}
 use Rattle.c_accepted.proofs.FromTyped.{from_typed}
@@ -41,12 +41,7 @@ module _ (is_global : Bool) where
   allowed_is : (structs : List CStruct) (line : ℕ) (v w : CExpr) → allowed is_global structs line v ≡ Ok w → IsAllowed is_global structs v × (v ≡ w)
   allowed_is structs line v w is =
       let h = passes (is_global && not (is_some (value_bytes structs v))) _ _ w is in
-      ((λ global. sure is_global (is_some (value_bytes structs v)) global h.0), same_ok v w h.1)
-    where
-      sure : (b c : Bool) → b ≡ true → b && not c ≡ false → c ≡ true
-      sure true true h i = refl
-      sure true false h i = absurd cc
-      sure false c h i = absurd cc
+      ((λ global. and_not is_global (is_some (value_bytes structs v)) global h.0), same_ok v w h.1)
 
   abbrev Is : CScene → CType → InitializerTree → CInitial × CScene → Type 0
   Is s t i r = Initializes is_global s t i r.0 r.1

@@ -10,7 +10,7 @@ use Rattle.c_types.specs.Parts.{CPart, is_array_part, begins_with_array, is_inco
 use Rattle.c_types.specs.Declarators.{has_many_params, object_type}
 use Rattle.c_accepted.specs.AcceptanceDeclarators.{MakesObject}
 use Rattle.c_accepted.specs.AcceptanceOperands.{Makes}
-use Rattle.c_accepted.proofs.Steps.{passes, passed, bound, onward, same_ok, not_less, no_less, no_left, no_right, not_of}
+use Rattle.c_accepted.proofs.Steps.{and_not, passes, passed, bound, onward, same_ok, not_less, no_less, no_left, no_right, not_of}
 
 reversed : (p : CPart) (ps : List CPart) → reverse (p ∷ ps) ≡ reverse ps ++ p ∷ []
 reversed p ps = reverse_onto ps p []
@@ -164,15 +164,10 @@ module _ (structs : List CStruct) where
 
   pub whole_of : (line : ℕ) (is_object : Bool) (base t : CType) (ps : List CPart) → is_incomplete structs is_object base ps ≡ false → made structs line base (reverse ps) ≡ Ok t → MakesWhole is_object base (reverse ps) t
   whole_of line is_object base t ps complete is =
-      let first : (first_is_array is_object (reverse ps) ≡ true → is_complete structs base ≡ true) = λ h. sure (begins_with_array is_object ps) (is_complete structs base) (from_specifier is_object ps ∙ h) complete in
+      let first : (first_is_array is_object (reverse ps) ≡ true → is_complete structs base ≡ true) = λ h. and_not (begins_with_array is_object ps) (is_complete structs base) (from_specifier is_object ps ∙ h) complete in
       let makes = made_from line base t (reverse ps) (λ h. first (weaker is_object (reverse ps) h)) is in
       record { made = makes; complete = λ object. whole_complete base t (reverse ps) (λ h. first (subst (λ o. first_is_array o (reverse ps) ≡ true) (sym object) h)) makes }
     where
-      sure : (b c : Bool) → b ≡ true → b && not c ≡ false → c ≡ true
-      sure true true h i = refl
-      sure true false h i = absurd cc
-      sure false c h i = absurd cc
-
       weaker : (o : Bool) (qs : List CPart) → first_is_array false qs ≡ true → first_is_array o qs ≡ true
       weaker o [] h = absurd cc
       weaker o (q ∷ qs) h = h

@@ -194,17 +194,6 @@ plain_is x a written becomes plain = by a (shape x a becomes) plain
     by a (Shape.from_null u b c d) plain = absurd cc
     by a (Shape.from_pointer u e b c f g h i) plain = absurd cc
 
--- what has no conversion is the operand itself
-pub written_is : (x a : CExpr) → Becomes x a → IsWritten a → a ≡ x
-written_is x a becomes written = by a (shape x a becomes) written
-  where
-    by : (a : CExpr) → Shape x a → IsWritten a → a ≡ x
-    by a Shape.same_one w = refl
-    by a (Shape.from_array u n h) w = absurd cc
-    by a (Shape.from_number u b c d) w = absurd cc
-    by a (Shape.from_null u b c d) w = absurd cc
-    by a (Shape.from_pointer u e b c f g h i) w = absurd cc
-
 -- a place is the operand itself
 pub place_is : (x a : CExpr) → Becomes x a → IsTrue (is_place a) → a ≡ x
 place_is x a becomes place = by a (shape x a becomes) place
@@ -303,13 +292,13 @@ pub record IsPointerOf (d a : CExpr) : Type 0 where
   pub own : unconverted a ≡ d
   pub may : may_point (type_of a) d ≡ true
 
-may_same : (t : CType) (d : CExpr) → type_of d ≡ t → may_point t d ≡ true
+pub may_same : (t : CType) (d : CExpr) → type_of d ≡ t → may_point t d ≡ true
 may_same t d is = or_left _ _ (or_left (same (type_of d) t) (is_null d) (same_of (type_of d) t is))
 
-may_null : (t : CType) (d : CExpr) → is_null d ≡ true → may_point t d ≡ true
+pub may_null : (t : CType) (d : CExpr) → is_null d ≡ true → may_point t d ≡ true
 may_null t d null = or_left _ _ (or_right (same (type_of d) t) (is_null d) null)
 
-may_void : (t : CType) (d : CExpr) → IsPointer (type_of d) → is_void_pointer (type_of d) || is_void_pointer t ≡ true → may_point t d ≡ true
+pub may_void : (t : CType) (d : CExpr) → IsPointer (type_of d) → is_void_pointer (type_of d) || is_void_pointer t ≡ true → may_point t d ≡ true
 may_void t d pointer void =
     or_right (same (type_of d) t || is_null d) _ (both_true (is_pointer (type_of d)) _ pointer (swapped (is_void_pointer (type_of d)) (is_void_pointer t) void))
 

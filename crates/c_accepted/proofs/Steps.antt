@@ -46,6 +46,10 @@ pub and_right : (a b : Bool) → a && b ≡ true → b ≡ true
 and_right true b h = h
 and_right false b h = absurd cc
 
+pub and_not : (a b : Bool) → a ≡ true → a && not b ≡ false → b ≡ true
+and_not true b h i = not_false b i
+and_not false b h i = absurd cc
+
 pub both_true : (a b : Bool) → a ≡ true → b ≡ true → a && b ≡ true
 both_true true b h i = i
 both_true false b h i = h

@@ -1,5 +1,5 @@
 -- Files that are accepted are what typing gives.
-use Rattle.std.proofs.Common.{◌≡◌, ℕ, ◌≤◌, ◌<◌, Bool, true, false, not, ◌&&◌, ◌||◌, List, [], ◌∷◌, ◌++◌, length, refl, sym, ap, subst, arith}
+use Rattle.std.proofs.Common.{◌≡◌, ℕ, ◌<◌, Bool, true, false, not, ◌&&◌, ◌||◌, List, [], ◌∷◌, ◌++◌, length, refl, sym, ap, subst, arith}
 use Rattle.std.specs.Prelude.{Option, None, Ok, nat_le, nat_lt}
 use Rattle.c_words.specs.declared.place.At.{At}
 use Rattle.c_tree.specs.Syntax.{InitializerTree, DeclaratorTree, InitDeclaratorTree, BlockTree, HeadTree, ExternalTree, UnitTree}
@@ -55,9 +55,6 @@ module _ (numbers : CDefinitions) where
   by_object f at x base i (CPart.Unsized ∷ ps) g is = object_to f at x base (CPart.Unsized ∷ ps) i g is
   by_object f at x base i (CPart.Function params ∷ ps) g is = absurd (no_function_object f x base params ps i g is)
 
-  few_or : (n : ℕ) → n ≤ 8 → nat_lt 8 n ≡ false
-  few_or n few = no_less 8 n few
-
   fewer : (defines : Bool) (n : ℕ) → (defines ≡ true → n < 1000) → defines && nat_le 1000 n ≡ false
   fewer false n few = refl
   fewer true n few = let less : n < 1000 = few refl in grind arith
@@ -73,7 +70,7 @@ module _ (numbers : CDefinitions) where
       → function_type f line x base params ps defines false ≡ Ok t
   function_type_to f line x base params ps defines t is =
       let tests = tests_of f.scene.structs line false base t ps (record { made = is.result; complete = λ h. absurd cc }) in
-      passed _ _ _ _ (no_or (nat_lt 8 (length params)) _ (few_or (length params) is.few_params) tests.few)
+      passed _ _ _ _ (no_or (nat_lt 8 (length params)) _ (no_less 8 (length params) is.few_params) tests.few)
       (passed _ _ _ _ (fewer defines (length f.functions) is.few_functions)
       (passed _ _ _ _ tests.complete
       (passed _ _ _ _ (no_or (has_function ps || gives_aggregate base ps) _ (no_or (has_function ps) _ tests.no_function is.no_aggregate) is.no_structs)

@@ -8,8 +8,8 @@ use Rattle.c_typed.specs.TypedRules.{AreCommon, AreMeeting, IsMoved, IsPointerTo
 use Rattle.c_rules.specs.Conversions.{decayed, as_number, as_promoted, as_pointer, may_point, points_to_complete, is_void}
 use Rattle.c_rules.specs.Operators.{both_numbers, is_move}
 use Rattle.c_accepted.specs.AcceptanceOperands.{Becomes}
-use Rattle.c_accepted.proofs.Steps.{some_is, and_left, and_right, both_true, or_left, or_right, no_left, no_right}
-use Rattle.c_accepted.proofs.Operands.{same_itself, same_is, same_of, no_number, IsRead, IsValue, plain_is, number_is, pointer_is, number_becomes, number_type, number_own, pointer_becomes, pointer_type, pointer_own}
+use Rattle.c_accepted.proofs.Steps.{some_is, and_left, and_right, both_true, or_right, no_left, no_right}
+use Rattle.c_accepted.proofs.Operands.{may_same, may_null, may_void, same_is, no_number, IsRead, IsValue, plain_is, number_is, pointer_is, number_becomes, number_type, number_own, pointer_becomes, pointer_type, pointer_own}
 
 pub promoted_number : (t : CType) → IsNumber t → IsNumber (promoted t)
 promoted_number CType.Char is = refl
@@ -201,18 +201,6 @@ no_voids_in : (d e : CExpr) → IsPointer (type_of d) ⊎ IsPointer (type_of e) 
 no_voids_in d e (inl pointer) = no_left (is_void (type_of d)) (is_void (type_of e)) (no_void (type_of d) pointer)
 no_voids_in d e (inr pointer) = no_right (is_void (type_of d)) (is_void (type_of e)) (no_void (type_of e) pointer)
 
-may_same : (t : CType) (d : CExpr) → same (type_of d) t ≡ true → may_point t d ≡ true
-may_same t d h = or_left _ _ (or_left (same (type_of d) t) (is_null d) h)
-
-may_null : (t : CType) (d : CExpr) → is_null d ≡ true → may_point t d ≡ true
-may_null t d h = or_left _ _ (or_right (same (type_of d) t) (is_null d) h)
-
-may_void : (d : CExpr) → is_pointer (type_of d) ≡ true → may_point (CType.Pointer CType.Void) d ≡ true
-may_void d h = or_right (same (type_of d) (CType.Pointer CType.Void) || is_null d) _ (both_true (is_pointer (type_of d)) true h refl)
-
-same_back : (t u : CType) → same t u ≡ true → same u t ≡ true
-same_back t u h = same_of u t (sym (same_is t u h))
-
 meets_by : (t : CType) (d e : CExpr) → (j k l m : Bool)
     → is_pointer (type_of d) && same (type_of d) (type_of e) ≡ j → is_null e && is_pointer (type_of d) ≡ k → is_null d && is_pointer (type_of e) ≡ l
     → is_pointer (type_of d) && is_pointer (type_of e) && (is_void_pointer (type_of d) || is_void_pointer (type_of e)) ≡ m
@@ -222,15 +210,15 @@ meets_by t d e true k l m j_is k_is l_is m_is is =
     let pointer : IsPointer (type_of d) = and_left _ _ j_is in
     subst (λ u. Meets u d e) (some_is (type_of d) t is) (record {
       pointer = pointer;
-      left = may_same (type_of d) d (same_itself (type_of d));
-      right = may_same (type_of d) e (same_back (type_of d) (type_of e) (and_right (is_pointer (type_of d)) _ j_is));
+      left = may_same (type_of d) d refl;
+      right = may_same (type_of d) e (sym (same_is (type_of d) (type_of e) (and_right (is_pointer (type_of d)) _ j_is)));
       one_pointer = inl pointer;
     })
 meets_by t d e false true l m j_is k_is l_is m_is is =
     let pointer : IsPointer (type_of d) = and_right (is_null e) _ k_is in
     subst (λ u. Meets u d e) (some_is (type_of d) t is) (record {
       pointer = pointer;
-      left = may_same (type_of d) d (same_itself (type_of d));
+      left = may_same (type_of d) d refl;
       right = may_null (type_of d) e (and_left (is_null e) (is_pointer (type_of d)) k_is);
       one_pointer = inl pointer;
     })
@@ -239,15 +227,15 @@ meets_by t d e false false true m j_is k_is l_is m_is is =
     subst (λ u. Meets u d e) (some_is (type_of e) t is) (record {
       pointer = pointer;
       left = may_null (type_of e) d (and_left (is_null d) (is_pointer (type_of e)) l_is);
-      right = may_same (type_of e) e (same_itself (type_of e));
+      right = may_same (type_of e) e refl;
       one_pointer = inr pointer;
     })
 meets_by t d e false false false true j_is k_is l_is m_is is =
     let pointers : is_pointer (type_of d) && is_pointer (type_of e) ≡ true = and_left _ (is_void_pointer (type_of d) || is_void_pointer (type_of e)) m_is in
     subst (λ u. Meets u d e) (some_is (CType.Pointer CType.Void) t is) (record {
       pointer = refl;
-      left = may_void d (and_left _ _ pointers);
-      right = may_void e (and_right (is_pointer (type_of d)) _ pointers);
+      left = may_void (CType.Pointer CType.Void) d (and_left _ _ pointers) (or_right (is_void_pointer (type_of d)) true refl);
+      right = may_void (CType.Pointer CType.Void) e (and_right (is_pointer (type_of d)) _ pointers) (or_right (is_void_pointer (type_of e)) true refl);
       one_pointer = inl (and_left (is_pointer (type_of d)) (is_pointer (type_of e)) pointers);
     })
 meets_by t d e false false false false j_is k_is l_is m_is is = absurd cc
