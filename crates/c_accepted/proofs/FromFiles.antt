@@ -133,7 +133,7 @@ module _ (numbers : CDefinitions) where
       let ps = bound (declarator_steps [] f.scene d.declarator) _ g is in
       by_steps base f d ps.0.0 ps.0.1 g (from_whole f.scene d.declarator ps.0 ps.1) ps.2
 
-  from_all_declared : (base : CType) (f : CFile) (ds : List InitDeclaratorTree) (g : CFile) → all_declared numbers f base ds ≡ Ok g → DeclareAll numbers base f ds g
+  pub from_all_declared : (base : CType) (f : CFile) (ds : List InitDeclaratorTree) (g : CFile) → all_declared numbers f base ds ≡ Ok g → DeclareAll numbers base f ds g
   from_all_declared base f [] g is = subst (DeclareAll numbers base f []) (same_ok f g is) DeclareAll.nothing
   from_all_declared base f (d ∷ ds) g is =
       let h = bound (declared numbers f base d) _ g is in

@@ -44,12 +44,12 @@ from_local base s d r is =
     DeclaresLocal.local (from_whole s d.declarator ps.0 ps.1) free.0 (object_is ps.0.1.structs (declarator_at d.declarator).line base t.0 (completed base d.initializer ps.0.0) t.1)
     (from_initialized_local (with_local ps.0.1 (declared_name d.declarator) t.0) (declarator_at d.declarator) (length ps.0.1.locals) t.0 d.at d.initializer r t.2)
 
-record LocalsAre (base : CType) (s : CScene) (ds : List InitDeclaratorTree) (done : List CDeclaration) (r : List CDeclaration × CScene) : Type 0 where
-  these : List CDeclaration
-  is : r.0 ≡ done ++ these
-  declare : DeclareLocals base s ds these r.1
+pub record LocalsAre (base : CType) (s : CScene) (ds : List InitDeclaratorTree) (done : List CDeclaration) (r : List CDeclaration × CScene) : Type 0 where
+  pub these : List CDeclaration
+  pub is : r.0 ≡ done ++ these
+  pub declare : DeclareLocals base s ds these r.1
 
-from_locals : (base : CType) (done : List CDeclaration) (s : CScene) (ds : List InitDeclaratorTree) (r : List CDeclaration × CScene) → locals done s base ds ≡ Ok r → LocalsAre base s ds done r
+pub from_locals : (base : CType) (done : List CDeclaration) (s : CScene) (ds : List InitDeclaratorTree) (r : List CDeclaration × CScene) → locals done s base ds ≡ Ok r → LocalsAre base s ds done r
 from_locals base done s [] r is = subst (LocalsAre base s [] done) (same_ok (done, s) r is) (record { these = []; is = sym (append-nil done); declare = DeclareLocals.nothing })
 from_locals base done s (d ∷ ds) r is =
     let x = bound (local s base d) _ r is in

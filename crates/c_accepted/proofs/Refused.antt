@@ -12,13 +12,13 @@ use Rattle.c_types.specs.Scene.{CScene, CDeclared}
 use Rattle.c_types.specs.Statements.{CAround, declaration, statement, item}
 use Rattle.c_typing.specs.Units.{CFile, definitions, externals, undefined, all_defined, main_or_none, empty_file, finished_file, typed_unit}
 use Rattle.c_accepted.specs.AcceptanceFiles.{AcceptsExternals}
-use Rattle.c_accepted.specs.AcceptanceLaws.{ArgumentsFailAtFirst, ItemsFailAtFirst, IsRefusedWith, FilesFailAtFirst}
-use Rattle.c_accepted.proofs.ToStatements.{to_items}
-use Rattle.c_accepted.proofs.FromStatements.{from_items}
-use Rattle.c_accepted.proofs.ToFiles.{to_externals}
-use Rattle.c_accepted.proofs.FromFiles.{from_externals}
+use Rattle.c_accepted.specs.AcceptanceLaws.{ArgumentsFailAtFirst, ItemsFailAtFirst, LocalsFailAtFirst, DeclaratorsFailAtFirst, IsRefusedWith, FilesFailAtFirst}
+use Rattle.c_accepted.proofs.ToStatements.{to_locals, to_items}
+use Rattle.c_accepted.proofs.FromStatements.{from_locals, from_items}
+use Rattle.c_accepted.proofs.ToFiles.{to_all_declared, to_externals}
+use Rattle.c_accepted.proofs.FromFiles.{from_all_declared, from_externals}
 use Rattle.c_accepted.proofs.Agreement.{defined_to, defined_is}
-use Rattle.c_accepted.proofs.First.{arguments_first, items_first, externals_first}
+use Rattle.c_accepted.proofs.First.{arguments_first, locals_first, items_first, declared_first, externals_first}
 use Rattle.c_accepted.proofs.Same.{arguments_are_typed}
 
 pub arguments_fail_at_first : ArgumentsFailAtFirst
@@ -64,6 +64,45 @@ items_fail_at_first a s xs e =
         state = (f.accepted.0, f.state);
         accepted = to_items a s (listed_items f.front) f.accepted.0 f.state [] f.accepted.1;
         refused = item_behind a [] f.accepted.0 f.state f.next e f.refused;
+      });
+    }
+
+-- declarators
+
+pub locals_fail_at_first : LocalsFailAtFirst
+locals_fail_at_first base s ds e =
+    let first = locals_first base [] s ds e in
+    record {
+      forward = λ is.
+          let f = first.forward is in
+          let all = from_locals base [] s f.front f.state f.accepted in
+          record { front = f.front; next = f.next; rest = f.rest; parts = f.parts; state = f.state.1; accepted = (all.these, all.declare); refused = f.refused };
+      backward = λ f. first.backward (record {
+        front = f.front;
+        next = f.next;
+        rest = f.rest;
+        parts = f.parts;
+        state = (f.accepted.0, f.state);
+        accepted = to_locals base s f.front f.accepted.0 f.state [] f.accepted.1;
+        refused = f.refused;
+      });
+    }
+
+pub declarators_fail_at_first : DeclaratorsFailAtFirst
+declarators_fail_at_first numbers base f ds e =
+    let first = declared_first numbers base f ds e in
+    record {
+      forward = λ is.
+          let g = first.forward is in
+          record { front = g.front; next = g.next; rest = g.rest; parts = g.parts; state = g.state; accepted = from_all_declared numbers base f g.front g.state g.accepted; refused = g.refused };
+      backward = λ g. first.backward (record {
+        front = g.front;
+        next = g.next;
+        rest = g.rest;
+        parts = g.parts;
+        state = g.state;
+        accepted = to_all_declared numbers base f g.front g.state g.accepted;
+        refused = g.refused;
       });
     }
 

@@ -90,7 +90,7 @@ module _ (numbers : CDefinitions) where
   to_declared base f d g (Declares.object steps is) = onward _ _ _ _ (to_declarator _ _ _ _ [] steps) (by_object _ (declarator_at d.declarator) _ base d.initializer _ g is)
   to_declared base f d g (Declares.function steps none is) = onward _ _ _ _ (to_declarator _ _ _ _ [] steps) (by_function _ (declarator_at d.declarator) _ base d.initializer _ _ _ none is)
 
-  to_all_declared : (base : CType) (f : CFile) (ds : List InitDeclaratorTree) (g : CFile) → DeclareAll numbers base f ds g → all_declared numbers f base ds ≡ Ok g
+  pub to_all_declared : (base : CType) (f : CFile) (ds : List InitDeclaratorTree) (g : CFile) → DeclareAll numbers base f ds g → all_declared numbers f base ds ≡ Ok g
   to_all_declared base f ds g DeclareAll.nothing = refl
   to_all_declared base f ds g (DeclareAll.next one more) = onward _ _ _ _ (to_declared base _ _ _ one) (to_all_declared base _ _ _ more)
 

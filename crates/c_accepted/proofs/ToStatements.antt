@@ -30,7 +30,7 @@ to_local base s d v u (DeclaresLocal.local steps free type is) =
     onward _ _ _ _ (to_declarator _ _ _ _ [] steps) (passed _ _ _ _ free
     (onward _ _ _ _ (object_to _ (declarator_at d.declarator).line base _ _ type) (to_initialized_local _ _ _ _ _ _ _ _ is)))
 
-to_locals : (base : CType) (s : CScene) (ds : List InitDeclaratorTree) (vs : List CDeclaration) (u : CScene) (done : List CDeclaration) → DeclareLocals base s ds vs u → locals done s base ds ≡ Ok (done ++ vs, u)
+pub to_locals : (base : CType) (s : CScene) (ds : List InitDeclaratorTree) (vs : List CDeclaration) (u : CScene) (done : List CDeclaration) → DeclareLocals base s ds vs u → locals done s base ds ≡ Ok (done ++ vs, u)
 to_locals base s ds vs u done DeclareLocals.nothing = pair_is done (done ++ []) s (sym (append-nil done))
 to_locals base s ds vs u done (DeclareLocals.next one more) = onward _ _ _ _ (to_local base _ _ _ _ one) (to_locals base _ _ _ _ (done ++ _ ∷ []) more ∙ pair_is _ _ u (past_one done _ _))
 

@@ -1,10 +1,10 @@
 -- The relation of acceptance, and the functions that type: they say the same.
 use Rattle.std.specs.Prelude.{ℕ, ◌≡◌, Bool, Some, None, Ok, Err, List, [], ◌∷◌, ◌++◌, codes}
-use Rattle.c_tree.specs.Syntax.{ExpressionTree, ExpressionTrees, TypeNameTree, InitializerTree, StructDefinitionTree, StatementTree, BlockItemTree, ExternalTree, UnitTree}
+use Rattle.c_tree.specs.Syntax.{ExpressionTree, ExpressionTrees, TypeNameTree, InitializerTree, StructDefinitionTree, InitDeclaratorTree, StatementTree, BlockItemTree, ExternalTree, UnitTree}
 use Rattle.c_tree.specs.SyntaxViews.{listed, listed_items}
 use Rattle.c_places.specs.InRange.{InRange}
 use Rattle.c_typed.specs.Types.{CType}
-use Rattle.c_typed.specs.TypedTree.{CExpr, CInitial, CStmt, CProgram}
+use Rattle.c_typed.specs.TypedTree.{CExpr, CInitial, CDeclaration, CStmt, CProgram}
 use Rattle.c_typed.specs.Typed.{Typed}
 use Rattle.c_rules.specs.declared.error.TypeError.{TypeError}
 use Rattle.c_rules.specs.declared.error.TypeError.TheVariants.{Unknown, NoMain}
@@ -13,12 +13,12 @@ use Rattle.c_types.specs.Scene.{CScene, CDeclared}
 use Rattle.c_types.specs.Expressions.{typed, typed_all, type_named}
 use Rattle.c_types.specs.Structs.{struct_defined}
 use Rattle.c_types.specs.Initializers.{initialized}
-use Rattle.c_types.specs.Statements.{CAround, statement, item, items}
-use Rattle.c_typing.specs.Units.{CDefinitions, CFile, definitions, empty_file, external, undefined, typed_unit}
+use Rattle.c_types.specs.Statements.{CAround, local, locals, statement, item, items}
+use Rattle.c_typing.specs.Units.{CDefinitions, CFile, definitions, empty_file, declared, all_declared, external, undefined, typed_unit}
 use Rattle.c_accepted.specs.AcceptanceExpressions.{Accepts, AcceptsAll, NamesType}
 use Rattle.c_accepted.specs.AcceptanceDeclarators.{DefinesStruct, IsInitializedBy}
-use Rattle.c_accepted.specs.AcceptanceStatements.{AcceptsStatement, AcceptsItems}
-use Rattle.c_accepted.specs.AcceptanceFiles.{AcceptsExternal, AcceptsExternals, AreDefined, AcceptsUnit}
+use Rattle.c_accepted.specs.AcceptanceStatements.{DeclareLocals, AcceptsStatement, AcceptsItems}
+use Rattle.c_accepted.specs.AcceptanceFiles.{DeclareAll, AcceptsExternal, AcceptsExternals, AreDefined, AcceptsUnit}
 
 -- each follows from the other
 pub record BothWays (P Q : Type 0) : Type 0 where
@@ -80,6 +80,17 @@ abbrev pub ItemsFailAtFirst : Type 0
 ItemsFailAtFirst = (a : CAround) (s : CScene) (xs : List BlockItemTree) (e : TypeError) →
     BothWays (items a [] s (listed_items xs) ≡ Err e)
     (FailsAtFirst (λ front u. (ys : List CStmt) × AcceptsItems a s (listed_items front) ys u) (λ u next. item a [] u next ≡ Err e) xs)
+
+-- the declarators of a declaration in a block, and of one of the file
+abbrev pub LocalsFailAtFirst : Type 0
+LocalsFailAtFirst = (base : CType) (s : CScene) (ds : List InitDeclaratorTree) (e : TypeError) →
+    BothWays (locals [] s base ds ≡ Err e)
+    (FailsAtFirst (λ front u. (vs : List CDeclaration) × DeclareLocals base s front vs u) (λ u next. local u base next ≡ Err e) ds)
+
+abbrev pub DeclaratorsFailAtFirst : Type 0
+DeclaratorsFailAtFirst = (numbers : CDefinitions) (base : CType) (f : CFile) (ds : List InitDeclaratorTree) (e : TypeError) →
+    BothWays (all_declared numbers f base ds ≡ Err e)
+    (FailsAtFirst (λ front g. DeclareAll numbers base f front g) (λ g next. declared numbers g base next ≡ Err e) ds)
 
 -- Where a file is refused: at the first of its declarations that is; or behind them all, for the first function that is
 -- called and not defined; or, if there is none, for want of `main`.

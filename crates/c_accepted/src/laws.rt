@@ -1,5 +1,5 @@
 //! The typing functions accept what the relation accepts.
-ghost use Rattle.c_accepted.specs.AcceptanceLaws.{ExpressionsAreTyped, ArgumentsAreTyped, TypeNamesAreTyped, StructsAreTyped, InitializersAreTyped, StatementsAreTyped, ExternalsAreTyped, AcceptedIsTyped, AcceptedAsOne, AcceptedKeepsRules, ArgumentsFailAtFirst, ItemsFailAtFirst, FilesFailAtFirst};
+ghost use Rattle.c_accepted.specs.AcceptanceLaws.{ExpressionsAreTyped, ArgumentsAreTyped, TypeNamesAreTyped, StructsAreTyped, InitializersAreTyped, StatementsAreTyped, ExternalsAreTyped, AcceptedIsTyped, AcceptedAsOne, AcceptedKeepsRules, ArgumentsFailAtFirst, ItemsFailAtFirst, LocalsFailAtFirst, DeclaratorsFailAtFirst, FilesFailAtFirst};
 
 use c_typing::laws::files_are_typed;
 
@@ -65,7 +65,18 @@ pub fn items_fail_at_first()
     ensures { ItemsFailAtFirst }
 {}
 
-/// The declarations of a file are refused where all before one are accepted and that one is refused.
+/// The declarators of a declaration in a block are refused where all before one are accepted and that one is refused.
+pub fn locals_fail_at_first()
+    ensures { LocalsFailAtFirst }
+{}
+
+/// The declarators of a declaration of the file are refused where all before one are accepted and that one is refused.
+pub fn declarators_fail_at_first()
+    ensures { DeclaratorsFailAtFirst }
+{}
+
+/// A file is refused where all its declarations before one are accepted and that one is refused; or behind its text, for
+/// a function that is called and not defined, or for want of `main`.
 pub fn files_fail_at_first()
     ensures { FilesFailAtFirst }
 {}
