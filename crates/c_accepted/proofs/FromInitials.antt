@@ -137,7 +137,8 @@ module _ (is_global : Bool) where
       let ok = allowed_is x.0.1.structs line (decayed x.0.0) v.0 v.1 in
       let no = struct_no_array (type_of x.0.0) (subst (λ y. is_struct y ≡ true) (sym c.0.same_struct) struct) in
       let a = from_typed s e x.0 x.1 in
-      subst (λ q. IsInitializedBy is_global s t (InitializerTree.Expression e) q.0 q.1) (ap (λ z. (CInitial.Value z, x.0.1)) c.1 ∙ same_ok (CInitial.Value w.0, x.0.1) r w.2)
+      let all : (CInitial.Value x.0.0, x.0.1) ≡ r = ap (λ z. (CInitial.Value z, x.0.1)) c.1 ∙ same_ok (CInitial.Value w.0, x.0.1) r w.2 in
+      subst (λ q. IsInitializedBy is_global s t (InitializerTree.Expression e) q.0 q.1) all
       (IsInitializedBy.copy a c.0 (subst (λ y. IsAllowed is_global x.0.1.structs y) (decayed_flat x.0.0 no.0) ok.0))
 
   pub from_initialized : (s : CScene) (line : ℕ) (t : CType) (i : InitializerTree) (r : CInitial × CScene) → initialized is_global s line t i ≡ Ok r → IsInitializedBy is_global s t i r.0 r.1

@@ -3,10 +3,12 @@ use Rattle.std.proofs.Common.{◌≡◌, ℕ, ◌+◌, false, List, [], ◌∷�
 use Rattle.std.specs.Prelude.{Option, Some, None, Ok, nat_lt, if◌then◌else◌}
 use Rattle.std.proofs.lemmas.List.{append-nil}
 use Rattle.c_words.specs.declared.place.At.{At}
+use Rattle.c_words.specs.declared.operators.BinaryOperator.{BinaryOperator}
 use Rattle.c_tree.specs.Syntax.{ExpressionTree, ExpressionTrees, TypeNameTree, TypeDeclaratorTree}
 use Rattle.c_typed.specs.Types.{CType}
 use Rattle.c_typed.specs.TypedTree.{CExpr, CForm}
 use Rattle.c_typed.specs.Sizes.{largest}
+use Rattle.c_typed.specs.TypedRules.{IsElement, AreInTurn}
 use Rattle.c_rules.specs.Rule.{Rule}
 use Rattle.c_rules.specs.Operators.{unary_rule, binary_rule, step_before_rule, step_after_rule, conditional_rule, comma_rule, cast_rule, index_rule, member_rule, arrow_rule, measured_rule, measured_type, assign_rule}
 use Rattle.c_types.specs.declared.calls.Callee.{Callee}
@@ -15,9 +17,9 @@ use Rattle.c_types.specs.Parts.{CPart, count_of, formed}
 use Rattle.c_types.specs.Expressions.{object, callee_of, called_first, called_if_named, text, joined, based, aside, back, counted_by, pointed, typed, typed_all, type_named, steps_of, sized}
 use Rattle.c_accepted.specs.AcceptanceExpressions.{Accepts, AcceptsAll, NamesType, HasSteps, HasSizes}
 use Rattle.c_accepted.proofs.Steps.{passes, bound, same_ok, not_less}
-use Rattle.c_accepted.proofs.FromBinary.{binary_from}
-use Rattle.c_accepted.proofs.FromUnary.{unary_from, step_before_from, step_after_from, measured_from, measured_type_from, index_from, member_from, arrow_from}
-use Rattle.c_accepted.proofs.FromRest.{cast_from, conditional_from, comma_from, assign_from}
+use Rattle.c_accepted.proofs.FromBinary.{OfTwo, OfBinary, binary_from}
+use Rattle.c_accepted.proofs.FromUnary.{OfArrow, unary_from, step_before_from, step_after_from, measured_from, measured_type_from, index_from, member_from, arrow_from}
+use Rattle.c_accepted.proofs.FromRest.{OfChoice, cast_from, conditional_from, comma_from, assign_from}
 use Rattle.c_accepted.proofs.MadeTypes.{formed_from}
 use Rattle.c_accepted.proofs.Calls.{object_from, call_accepts}
 use Rattle.c_accepted.proofs.ToTyped.{reads, reads_all, past_one, past_pointers, past_both}
@@ -25,6 +27,9 @@ use Rattle.c_accepted.proofs.ToTyped.{reads, reads_all, past_one, past_pointers,
 -- an expression is accepted as what is typed
 abbrev pub IsAccepted : CScene → ExpressionTree → CExpr × CScene → Type 0
 IsAccepted s e r = Accepts s e r.0 r.1
+
+given : (s : CScene) (e : ExpressionTree) (v : CExpr) (u : CScene) (r : CExpr × CScene) → (let o : Rule (CExpr × CScene) = Ok (v, u) in o) ≡ Ok r → Accepts s e v u → IsAccepted s e r
+given s e v u r is a = subst (IsAccepted s e) (same_ok (v, u) r is) a
 
 ends : (s : CScene) (e : ExpressionTree) (v w : CExpr) (u : CScene) (r : CExpr × CScene) → (let o : Rule (CExpr × CScene) = Ok (v, u) in o) ≡ Ok r → v ≡ w → Accepts s e w u → IsAccepted s e r
 ends s e v w u r is same a = subst (IsAccepted s e) (same_ok (v, u) r is) (subst (λ x. Accepts s e x u) (sym same) a)
@@ -59,6 +64,25 @@ call_from_typed s at f es (Some c) u vs r named first args is =
     let accepts : AcceptsAll s es args.these vs.1 = subst (λ w. AcceptsAll w es args.these vs.1) (sym before) args.accepts in
     call_accepts s vs.1 at f es args.these (reads_all _ _ _ _ accepts) accepts c r named (subst (λ l. called_if_named vs.1 at (Some c) l ≡ Ok r) args.is is)
 
+-- operators whose operands are accepted
+
+index_accepts : (s m u : CScene) (at : At) (a b : ExpressionTree) (x y v : CExpr) → Accepts s a x m → Accepts m b y u → OfTwo (IsElement u.structs) at CForm.Index x y v → Accepts s (ExpressionTree.Index at a b) v u
+index_accepts s m u at a b x y v first second o = subst (λ w. Accepts s (ExpressionTree.Index at a b) w u) (sym o.is) (Accepts.index first second o.left o.right o.keeps)
+
+arrow_accepts : (s u : CScene) (at : At) (a : ExpressionTree) (m : List ℕ) (x v : CExpr) → Accepts s a x u → OfArrow u.structs at x m v → Accepts s (ExpressionTree.Arrow at a m) v u
+arrow_accepts s u at a m x v first o = subst (λ w. Accepts s (ExpressionTree.Arrow at a m) w u) (sym o.is) (Accepts.arrow first o.becomes o.keeps o.named)
+
+binary_accepts : (s m u : CScene) (at : At) (op : BinaryOperator) (a b : ExpressionTree) (x y v : CExpr) → Accepts s a x m → Accepts m b y u → OfBinary u.structs at op x y v → Accepts s (ExpressionTree.Binary at a op b) v u
+binary_accepts s m u at op a b x y v first second o = subst (λ w. Accepts s (ExpressionTree.Binary at a op b) w u) (sym o.is) (Accepts.binary first second o.left o.right o.keeps)
+
+conditional_accepts : (s l m u : CScene) (at : At) (c a b : ExpressionTree) (x y z v : CExpr) → Accepts s c x l → Accepts l a y m → Accepts m b z u → OfChoice at x y z v → Accepts s (ExpressionTree.Conditional at c a b) v u
+conditional_accepts s l m u at c a b x y z v first second third o =
+    subst (λ w. Accepts s (ExpressionTree.Conditional at c a b) w u) (sym o.chosen.is)
+    (Accepts.conditional first second third o.tested.becomes o.chosen.left o.chosen.right o.tested.condition o.chosen.keeps)
+
+comma_accepts : (s m u : CScene) (at : At) (a b : ExpressionTree) (x y v : CExpr) → Accepts s a x m → Accepts m b y u → OfTwo AreInTurn at CForm.Comma x y v → Accepts s (ExpressionTree.Comma at a b) v u
+comma_accepts s m u at a b x y v first second o = subst (λ w. Accepts s (ExpressionTree.Comma at a b) w u) (sym o.is) (Accepts.comma first second o.left o.right o.keeps)
+
 mutual
   pub from_typed : (s : CScene) (e : ExpressionTree) (r : CExpr × CScene) → typed s e ≡ Ok r → IsAccepted s e r
   from_typed s (ExpressionTree.Name at x) r is =
@@ -77,7 +101,7 @@ mutual
       let first = from_typed s a x.0 x.1 in
       let second = from_typed x.0.1 i y.0 y.1 in
       let o = index_from y.0.1.structs at x.0.0 y.0.0 v.0 (reads _ _ _ _ first).written (reads _ _ _ _ second).written v.1 in
-      ends s (ExpressionTree.Index at a i) v.0 (CExpr.expr at o.type (CForm.Index o.first o.second)) y.0.1 r v.2 o.is (Accepts.index first second o.left o.right o.keeps)
+      given s (ExpressionTree.Index at a i) v.0 y.0.1 r v.2 (index_accepts s x.0.1 y.0.1 at a i x.0.0 y.0.0 v.0 first second o)
   from_typed s (ExpressionTree.Call at f es) r is =
       let c = bound (callee_of s f) _ r is in
       let u = bound (called_first s c.0 (typed s f)) _ r c.2 in
@@ -94,7 +118,7 @@ mutual
       let v = bound (arrow_rule x.0.1.structs at x.0.0 m) _ r x.2 in
       let first = from_typed s a x.0 x.1 in
       let o = arrow_from x.0.1.structs at x.0.0 m v.0 (reads _ _ _ _ first).written v.1 in
-      ends s (ExpressionTree.Arrow at a m) v.0 (CExpr.expr at o.type (CForm.Arrow o.operand o.member)) x.0.1 r v.2 o.is (Accepts.arrow first o.becomes o.keeps o.named)
+      given s (ExpressionTree.Arrow at a m) v.0 x.0.1 r v.2 (arrow_accepts s x.0.1 at a m x.0.0 v.0 first o)
   from_typed s (ExpressionTree.StepAfter at a op) r is =
       let x = bound (typed s a) _ r is in
       let v = bound (step_after_rule x.0.1.structs at op x.0.0) _ r x.2 in
@@ -138,7 +162,7 @@ mutual
       let first = from_typed s a x.0 x.1 in
       let second = from_typed x.0.1 b y.0 y.1 in
       let o = binary_from y.0.1.structs at op x.0.0 y.0.0 v.0 (reads _ _ _ _ first).written (reads _ _ _ _ second).written v.1 in
-      ends s (ExpressionTree.Binary at a op b) v.0 (CExpr.expr at o.type (CForm.Binary op o.first o.second)) y.0.1 r v.2 o.is (Accepts.binary first second o.left o.right o.keeps)
+      given s (ExpressionTree.Binary at a op b) v.0 y.0.1 r v.2 (binary_accepts s x.0.1 y.0.1 at op a b x.0.0 y.0.0 v.0 first second o)
   from_typed s (ExpressionTree.Conditional at c a b) r is =
       let x = bound (typed s c) _ r is in
       let y = bound (typed x.0.1 a) _ r x.2 in
@@ -148,7 +172,7 @@ mutual
       let second = from_typed x.0.1 a y.0 y.1 in
       let third = from_typed y.0.1 b z.0 z.1 in
       let o = conditional_from at x.0.0 y.0.0 z.0.0 v.0 (reads _ _ _ _ first).written (reads _ _ _ _ second).written (reads _ _ _ _ third).written v.1 in
-      ends s (ExpressionTree.Conditional at c a b) v.0 (CExpr.expr at o.chosen.type (CForm.Conditional o.condition o.chosen.first o.chosen.second)) z.0.1 r v.2 o.chosen.is (Accepts.conditional first second third o.tested.becomes o.chosen.left o.chosen.right o.tested.condition o.chosen.keeps)
+      given s (ExpressionTree.Conditional at c a b) v.0 z.0.1 r v.2 (conditional_accepts s x.0.1 y.0.1 z.0.1 at c a b x.0.0 y.0.0 z.0.0 v.0 first second third o)
   from_typed s (ExpressionTree.Assign at a op b) r is =
       let x = bound (typed s a) _ r is in
       let y = bound (typed x.0.1 b) _ r x.2 in
@@ -163,7 +187,7 @@ mutual
       let first = from_typed s a x.0 x.1 in
       let second = from_typed x.0.1 b y.0 y.1 in
       let o = comma_from at x.0.0 y.0.0 (reads _ _ _ _ first).written (reads _ _ _ _ second).written in
-      ends s (ExpressionTree.Comma at a b) (comma_rule at x.0.0 y.0.0) (CExpr.expr at o.type (CForm.Comma o.first o.second)) y.0.1 r y.2 o.is (Accepts.comma first second o.left o.right o.keeps)
+      given s (ExpressionTree.Comma at a b) (comma_rule at x.0.0 y.0.0) y.0.1 r y.2 (comma_accepts s x.0.1 y.0.1 at a b x.0.0 y.0.0 (comma_rule at x.0.0 y.0.0) first second o)
 
   pub from_typed_all : (vs : List CExpr) (s : CScene) (es : ExpressionTrees) (r : List CExpr × CScene) → typed_all vs s es ≡ Ok r → AreAccepted s es vs r
   from_typed_all vs s ExpressionTrees.none r is = subst (AreAccepted s ExpressionTrees.none vs) (same_ok (vs, s) r is) (record { these = []; is = sym (append-nil vs); accepts = AcceptsAll.nothing })
