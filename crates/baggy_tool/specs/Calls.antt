@@ -1,5 +1,5 @@
 -- What a call of the tool does, by its words, the files, the input, the output and the notes.
-use Rattle.std.specs.Prelude.{◌≡◌, ◌≢◌, ℕ, ◌<◌, Bool, List, Option, Some, None, Err}
+use Rattle.std.specs.Prelude.{◌≡◌, ◌≢◌, ℕ, Bool, List, Option, Some, None, Err}
 use Rattle.bb_outside.specs.Causes.{Rose}
 use Rattle.bb_outside.specs.Files.{Told, Made, Stays}
 use Rattle.rv_image.specs.declared.image.Image.{Image}

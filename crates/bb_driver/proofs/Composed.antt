@@ -1,12 +1,12 @@
 -- From the source to the machine: what each layer says of one input gives that the machine does the same.
-use Rattle.std.proofs.Common.{◌≡◌, ◌≢◌, ℕ, ◌+◌, ◌*◌, ◌≤◌, ◌%◌, List, [], ◌∷◌, ◌++◌, Option, Some, None, ◌⊎◌, inl, inr, refl, sym, ap, ◌∙◌, subst, ⊎_elim, arith, append-nil}
+use Rattle.std.proofs.Common.{◌≡◌, ◌≢◌, ℕ, ◌≤◌, List, [], ◌∷◌, ◌++◌, Option, Some, None, ◌⊎◌, inl, inr, refl, sym, ap, ◌∙◌, subst, ⊎_elim, arith, append-nil}
 use Rattle.std.specs.Prelude.{IsSome}
 use Rattle.size_table.specs.Blocks.{Block}
 use Rattle.source_meaning.specs.declared.values.Ending.{Ending}
 use Rattle.source_meaning.specs.declared.values.Ending.TheVariants as ending
 use Rattle.source_meaning.specs.Worlds as source
 use Rattle.source_meaning.specs.Runs.{Outcome, cost}
-use Rattle.injection.specs.Trail.{SafeSites, Says, image_trail}
+use Rattle.injection.specs.Trail.{SafeSites, Says}
 use Rattle.flat_code.specs.Told.{Tell, Stamped, tells, AllBy, Begins, Came}
 use Rattle.flat_code.specs.Told as tell
 use Rattle.flat_code.specs.World as flat

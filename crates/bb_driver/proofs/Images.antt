@@ -1,10 +1,10 @@
 -- The image of resolved parts keeps the rules of images, and is made of the code.
-use Rattle.std.proofs.Common.{◌≡◌, ℕ, zero, suc, ◌≤◌, ◌+◌, ◌*◌, List, [], ◌∷◌, length, refl, sym, ap, ◌∙◌, subst, arith, lit≤}
-use Rattle.std.specs.Prelude.{replicate, false}
+use Rattle.std.proofs.Common.{◌≡◌, ℕ, zero, suc, ◌≤◌, ◌+◌, ◌*◌, List, [], length, refl, sym, ap, ◌∙◌, subst, arith, lit≤}
+use Rattle.std.specs.Prelude.{replicate}
 use Rattle.std.proofs.lemmas.List.{length-replicate}
 use Rattle.size_table.specs.declared.memory_map.TheConstants.{TEXT_START}
 use Rattle.mid_code.specs.Code.{Program}
-use Rattle.bounds_instr.specs.Code.{global_blocks, instrumented}
+use Rattle.bounds_instr.specs.Code.{global_blocks}
 use Rattle.bounds_instr.specs.Instruments.{Instruments}
 use Rattle.bounds_instr.specs.Keeps.{Keeps}
 use Rattle.flat_code.specs.Code.{FCode}

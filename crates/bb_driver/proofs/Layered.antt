@@ -1,5 +1,5 @@
 -- The layers make an image right.
-use Rattle.std.proofs.Common.{◌≡◌, ℕ, ◌≤◌, List, refl, sym, ap, ◌∙◌, subst, arith}
+use Rattle.std.proofs.Common.{◌≡◌, ℕ, ◌≤◌, List, refl, sym, subst, arith}
 use Rattle.std.specs.Prelude.{All}
 use Rattle.bb_words.specs.Answers.{Answer}
 use Rattle.c_typed.specs.TypedTree.{CProgram}
@@ -10,7 +10,7 @@ use Rattle.source_meaning.specs.Worlds as source
 use Rattle.source_meaning.specs.Runs as meaning
 use Rattle.injection.specs.Trail.{SafeSites, Says}
 use Rattle.mid_code.specs.Code.{Program}
-use Rattle.mid_code.specs.Meaning.{MidEnding, Came, Point}
+use Rattle.mid_code.specs.Meaning.{Came, Point}
 use Rattle.mid_code.specs.Runs as mid
 use Rattle.lowering.specs.Keeps.{Agrees}
 use Rattle.bounds_instr.specs.Code.{global_blocks, frames_of}
@@ -23,14 +23,14 @@ use Rattle.flat_code.specs.Safety.{AllSafe}
 use Rattle.flat_code.specs.Laws.{SafeAppends, TrapsAreOfAccesses, AllByLater, point_of}
 use Rattle.flat_code.specs.Run.{flat_run}
 use Rattle.flat_verify.specs.Safe.{DisciplinedIsSafe}
-use Rattle.flat_landing.specs.Lands.{outcome_of, RunsAs}
+use Rattle.flat_landing.specs.Lands.{outcome_of}
 use Rattle.rv_image.specs.declared.image.Image.{Image}
 use Rattle.rv_image.specs.Rules.{slot_of}
 use Rattle.rv_machine.specs.Formed.{IsByte}
 use Rattle.rv_machine.specs.Live as machine
 use Rattle.rv_machine.specs.Laws.{TableIsKept}
 use Rattle.rv_machine.specs.Machine.{machine_after}
-use Rattle.rv_machine.specs.Safety.{IsSafe, SafeRun}
+use Rattle.rv_machine.specs.Safety.{SafeRun}
 use Rattle.bb_driver.specs.Same.{SafeSitesHold, Same}
 use Rattle.bb_driver.specs.Right.{Right}
 use Rattle.bb_driver.specs.Laws.{Layers}

@@ -5,3 +5,4 @@ pub mod Layered
 pub mod Made
 pub mod Reading
 pub mod Images
+pub mod Unique

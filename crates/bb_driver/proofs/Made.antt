@@ -1,18 +1,17 @@
 -- An image that is made of the code of a program is right for it.
-use Rattle.std.proofs.Common.{◌≡◌, ℕ, zero, suc, ◌<◌, ◌≤◌, ◌+◌, ◌*◌, List, [], ◌∷◌, ◌++◌, length, Option, Some, None, refl, sym, ap, ◌∙◌, subst, arith}
-use Rattle.std.specs.Prelude.{All, map, replicate, false, true, slice_get, slice_index}
+use Rattle.std.proofs.Common.{◌≡◌, ℕ, zero, suc, ◌<◌, ◌+◌, List, [], ◌∷◌, ◌++◌, length, Option, Some, None, refl, sym, ap, ◌∙◌, subst, arith}
+use Rattle.std.specs.Prelude.{All, map, replicate, slice_get, slice_index}
 use Rattle.std.proofs.lemmas.Bool.{true≢false}
 use Rattle.std.proofs.lemmas.List.{length-map, replicate_more}
 use Rattle.std.proofs.lemmas.List.Elements.{All-from_get_or}
 use Rattle.c_typed.specs.TypedTree.{CProgram}
 use Rattle.c_typed.specs.Typed.{Typed}
-use Rattle.size_table.specs.Blocks.{Block}
 use Rattle.size_table.specs.Made.{blocks_from}
 use Rattle.size_table.specs.declared.memory_map.TheConstants.{GLOBALS_START}
 use Rattle.source_meaning.specs.Objects.{Object}
 use Rattle.source_meaning.specs.Worlds as source
 use Rattle.source_meaning.specs.Worlds.{Line, Moved}
-use Rattle.mid_code.specs.Code.{Function, Program}
+use Rattle.mid_code.specs.Code.{Function}
 use Rattle.mid_code.specs.Formed.{Formed}
 use Rattle.mid_code.specs.Runs as mid
 use Rattle.lowering.specs.Built.{IsBuilt}
@@ -22,7 +21,7 @@ use Rattle.bounds_instr.specs.Code.{frame_of, function_code, frames_of, global_b
 use Rattle.flat_code.specs.Accounts.{frame_size}
 use Rattle.flat_code.specs.Code.{FFunction, FCode}
 use Rattle.flat_code.specs.Run.{flat_run}
-use Rattle.flat_verify.specs.Safe.{AreGlobals, IsFrame, AreFrames}
+use Rattle.flat_verify.specs.Safe.{AreGlobals, IsFrame}
 use Rattle.flat_landing.specs.Lands.{outcome_of, RunsAs}
 use Rattle.rv_image.specs.declared.image.Image.{Image}
 use Rattle.rv_machine.specs.Formed.{IsByte}

@@ -1,6 +1,6 @@
 -- What reading a text, and lowering its program, say of the text.
-use Rattle.std.proofs.Common.{◌≡◌, ℕ, List}
-use Rattle.std.specs.Prelude.{Result, Ok, Err}
+use Rattle.std.proofs.Common.{ℕ, List}
+use Rattle.std.specs.Prelude.{Ok, Err}
 use Rattle.c_typed.specs.TypedTree.{CProgram}
 use Rattle.mid_code.specs.declared.code.Mid.{Mid}
 use Rattle.lowering.specs.declared.error.LowerError.{LowerError}
@@ -8,7 +8,7 @@ use Rattle.lowering.specs.declared.error.LowerError.TheVariants as lower
 use Rattle.lowering.specs.Lowers.{IsLowered}
 use Rattle.bb_driver.specs.declared.error.CompileError.{CompileError}
 use Rattle.bb_driver.specs.declared.error.CompileError.TheVariants as compile
-use Rattle.bb_driver.specs.Sources.{Means, IsWithinLimits, Accepts, ReadsProgram, Checks, of_lower, limit_of}
+use Rattle.bb_driver.specs.Sources.{Means, Accepts, ReadsProgram, Checks, of_lower, limit_of}
 use Rattle.bb_driver.specs.Compiles.{Compiles}
 
 -- a program that has code is within the limits, and so is one that is not built

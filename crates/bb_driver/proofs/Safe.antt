@@ -1,14 +1,12 @@
 -- The runs of an image are safe, where they are those of safe flat code.
-use Rattle.std.proofs.Common.{◌≡◌, ◌≢◌, ℕ, ◌≤◌, List, ◌++◌, Option, Some, None, refl, sym, ap, ◌∙◌, subst}
+use Rattle.std.proofs.Common.{ℕ, List, Option, Some, None, refl, sym, subst}
 use Rattle.std.specs.Prelude.{All, IsSome}
 use Rattle.bb_words.specs.Answers.{Answer}
 use Rattle.bb_words.specs.declared.kinds.TrapKind.{TrapKind}
 use Rattle.bb_words.specs.declared.kinds.TrapKind.TheVariants as trap
-use Rattle.bb_watch.specs.Told.{events_of}
-use Rattle.size_table.specs.Blocks.{Block}
 use Rattle.flat_code.specs.Told.{tells}
 use Rattle.flat_code.specs.World as flat
-use Rattle.flat_code.specs.Safety.{AllSafe, live_of, ever_of}
+use Rattle.flat_code.specs.Safety.{AllSafe}
 use Rattle.flat_code.specs.Laws.{SafeAppends, IsOfAccess, TrapsOfAccess}
 use Rattle.rv_image.specs.declared.image.Image.{Image}
 use Rattle.rv_image.specs.Rules.{IsImage, slot_of}
@@ -17,7 +15,7 @@ use Rattle.rv_machine.specs.Formed.{IsByte}
 use Rattle.rv_machine.specs.Live.{global_blocks}
 use Rattle.rv_machine.specs.Laws.{TableIsKept}
 use Rattle.rv_machine.specs.Machine.{machine_after}
-use Rattle.rv_machine.specs.Safety.{IsSafeEnding, IsSafe, SafeRun}
+use Rattle.rv_machine.specs.Safety.{IsSafeEnding, IsSafe}
 use Rattle.flat_landing.specs.Shared.{shared}
 use Rattle.flat_landing.specs.Lands.{Outcome, outcome_of, halt_of, RunsAs}
 use Rattle.bb_driver.proofs.Shared.{safe_shared}

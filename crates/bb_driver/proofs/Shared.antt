@@ -1,15 +1,15 @@
 -- Output, trail and safety of what a machine tells, by what it shares with flat code.
-use Rattle.std.proofs.Common.{arith, ◌≡◌, ◌≢◌, ℕ, List, [], ◌∷◌, ◌++◌, ◌⊎◌, inl, inr, Bool, true, false, cond, refl, sym, ap, ◌∙◌, subst, ⊎_elim}
-use Rattle.std.specs.Prelude.{◌==◌, ◌||◌, ◌/◌, ◌^◌}
+use Rattle.std.proofs.Common.{arith, ◌≡◌, ◌≢◌, ℕ, List, [], ◌∷◌, ◌++◌, Bool, true, false, cond, refl, ap}
+use Rattle.std.specs.Prelude.{◌==◌, ◌||◌}
 use Rattle.bb_watch.specs.declared.event.Event.{Event}
 use Rattle.bb_watch.specs.declared.event.Event.TheVariants as event
 use Rattle.bb_watch.specs.Told as told
-use Rattle.bb_watch.specs.Safety.{Each, IsMoveSafe, IsAccessSafe, LieIn, WasFreed}
+use Rattle.bb_watch.specs.Safety.{Each, IsMoveSafe, IsAccessSafe}
 use Rattle.bb_watch.specs.Live.{live_after, ever_after}
 use Rattle.size_table.specs.Blocks.{Block}
 use Rattle.flat_code.specs.Told as flat
 use Rattle.flat_code.specs.Safety.{AllSafe}
-use Rattle.flat_landing.specs.Shared.{shared, shared_event}
+use Rattle.flat_landing.specs.Shared.{shared}
 use Rattle.bb_driver.specs.Same.{marks_of}
 
 either_way : (b : Bool) (xs : List flat.Tell) (f : List flat.Tell → Type 0) → (b ≡ true → f []) → (b ≡ false → f xs) → f (cond b [] xs)

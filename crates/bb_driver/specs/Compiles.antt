@@ -1,5 +1,5 @@
 -- What compiling a text answers.
-use Rattle.std.specs.Prelude.{◌≡◌, ℕ, ◌≤◌, false, List, [], length, replicate, Result, Ok, Err}
+use Rattle.std.specs.Prelude.{◌≡◌, ℕ, false, List, [], length, replicate, Result, Ok, Err}
 use Rattle.c_typed.specs.TypedTree.{CProgram}
 use Rattle.injection.specs.Trail.{SafeSites}
 use Rattle.mid_code.specs.Code.{Program}
@@ -35,6 +35,12 @@ Compiles text (Ok image) = IsImageOf text image
 Compiles text (Err compile.Memory) = Unit {0}
 Compiles text (Err (compile.Lower lower.NotBuilt)) = IsNotBuilt text
 Compiles text (Err error) = Refuses text error
+
+-- the text has an image, unless memory was wanting
+abbrev pub IsAnswered : Result Image CompileError → Type 0
+IsAnswered (Ok image) = Unit {0}
+IsAnswered (Err compile.Memory) = Unit {0}
+IsAnswered (Err error) = ⊥
 
 -- ---- From mid code on
 

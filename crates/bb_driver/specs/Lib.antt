@@ -3,3 +3,4 @@ pub mod Right
 pub mod Laws
 pub mod Sources
 pub mod Compiles
+pub mod OneAnswer

@@ -1,6 +1,6 @@
 -- When the runs of an image mean what the program means: as often as the source keeps its objects, the image ends as it does,
 -- with its output and its trail, in the instructions that it pays for.
-use Rattle.std.specs.Prelude.{◌≡◌, ◌⊎◌, ℕ, ◌≤◌, ◌<◌, ◌%◌, pos, true, List, [], ◌∷◌, ◌++◌, Option, Some, None, IsSome, slice_get}
+use Rattle.std.specs.Prelude.{◌≡◌, ◌⊎◌, ℕ, ◌≤◌, ◌<◌, ◌%◌, pos, true, List, [], ◌∷◌, Option, Some, None, IsSome, slice_get}
 use Rattle.bb_watch.specs.declared.event.Event.{Event}
 use Rattle.bb_watch.specs.declared.event.Event.TheVariants as event
 use Rattle.bb_watch.specs.Told.{output_of, events_of}

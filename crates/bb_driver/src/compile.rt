@@ -1,10 +1,13 @@
 //! From a text to its image.
 ghost use Rattle.std.specs.Prelude.{◌<◌, ◌^◌, length};
-ghost use Rattle.bb_driver.specs.Compiles.{Compiles};
+ghost use Rattle.c_typed.specs.TypedTree.{CProgram};
+ghost use Rattle.lowering.specs.Built.{IsBuilt};
+ghost use Rattle.bb_driver.specs.Sources.{Accepts};
+ghost use Rattle.bb_driver.specs.Compiles.{Compiles, IsAnswered};
 
 use crate::error::CompileError;
 use crate::image::image_of;
-use crate::laws::layers_make_right;
+use crate::laws::{layers_make_right, one_answer};
 use crate::source::read;
 use lowering::lower::lower;
 use rv_image::image::Image;
@@ -14,6 +17,17 @@ use std::alloc::Global;
 /// what the program means. Or the first refusal of tokens, grammar, typing and limits, in this order; or the program is
 /// accepted and has a form that is not built.
 pub fn compile(alloc: Global, text: &[u8]) -> Result<Image, CompileError>
+    requires { length text.now < 2 ^ 32 }
+    ensures answers { Compiles text.now result }
+    // So a text that is accepted, and whose program is built, is compiled, unless memory runs out.
+    ensures complete { (p : CProgram) → Accepts text.now p → IsBuilt p → IsAnswered result }
+{
+    one_answer();
+    compiled(alloc, text)
+}
+
+// The image of a text, or why it has none.
+fn compiled(alloc: Global, text: &[u8]) -> Result<Image, CompileError>
     requires { length text.now < 2 ^ 32 }
     ensures { Compiles text.now result }
 {

@@ -1,5 +1,6 @@
 //! What the layers make.
 ghost use Rattle.bb_driver.specs.Laws.{LayersMakeRight};
+ghost use Rattle.bb_driver.specs.OneAnswer.{HasOneAnswer};
 
 /// Where each layer of the compiler keeps its contract, the image is right for the program: each of its runs is safe, and
 /// means what the program means.
@@ -14,4 +15,14 @@ pub fn layers_make_right()
     flat_code::laws::traps_are_of_accesses();
     flat_verify::laws::disciplined_is_safe();
     rv_machine::laws::table_is_kept();
+}
+
+/// A text is the file of one program at most, and one that is accepted is not refused. So each answer of the compiler comes
+/// exactly where it holds.
+pub fn one_answer()
+    ensures { HasOneAnswer }
+{
+    c_lexer::one_reading();
+    c_parser::one_unit();
+    c_tree::syntax::grammar::not_refused();
 }

@@ -1,5 +1,5 @@
--- What selected code looks like, for who adds code of their own to a text: which registers it leaves alone, and which forms its
--- jumps and accesses have.
+-- What selected code looks like, for those who add code of their own to a text: which registers it leaves alone, and which
+-- forms its jumps and accesses have.
 use Rattle.std.specs.Prelude.{◌≡◌, ◌==◌, ℕ, ◌*◌, ◌≤◌, Bool, true, not, ◌&&◌, ◌||◌, nat_lt, if◌then◌else◌, List, [], ◌∷◌, length, Some, All}
 use Rattle.rv_code.specs.Formats.{Format, RType, IType, SType, BType, UType, JType, PlainType}
 use Rattle.rv_code.specs.Code.{format_of, instruction_of}

@@ -38,7 +38,7 @@ fn status_on(
 }
 
 // The status of a call, where `f.c` has this text, if it notes just this.
-fn status(
+pub(crate) fn status(
     alloc: Global,
     words: &[&str],
     text: &[u8],
@@ -263,6 +263,53 @@ fn texts_are_run(rt: HostRuntime) -> Result<(), Fail> {
     Ok(())
 }
 
+// The status of a text that is compiled and then run as an image, if the run notes just this.
+fn status_of_image(alloc: Global, text: &str, noted: &str) -> Result<Option<u8>, AllocError> {
+    let mut shelf = MemShelf::new(alloc, &[])?;
+    shelf.add("f.c", text.as_bytes())?;
+    let words = ["compile", "f.c", "--out", "p"];
+    match status_on(alloc, &mut shelf, &words, 0, &[], "")? {
+        Some(0) => status_on(alloc, &mut shelf, &["exec", "p"], 200, &[], noted),
+        other => Ok(other),
+    }
+}
+
+#[test]
+fn images_of_texts_are_run(rt: HostRuntime) -> Result<(), Fail> {
+    for (text, run, noted, _, _) in &TEXTS {
+        if *run != 124 {
+            let got = status_of_image(rt.alloc(), text, noted)?;
+            assert_eq!(rt; got, Some(*run), "{text}");
+        }
+    }
+    Ok(())
+}
+
+// Texts that are accepted and not built, one for each cause.
+const OTHERS: [&str; 10] = [
+    "int x; int main(void) { return 0; }",
+    "int main(void) { int a[2]; return 0; }",
+    "struct s { int a; }; int main(void) { struct s v; return 0; }",
+    "int main(void) { int x; &x; return 0; }",
+    "int main(void) { int *p; return 0; }",
+    "int f(char *p) { return 0; } int main(void) { return 0; }",
+    "struct s { int *p; }; int main(void) { return 0; }",
+    "int main(void) { \"a\"; return 0; }",
+    "int main(void) { malloc(4); return 0; }",
+    "int main(void) { NULL; return 0; }",
+];
+
+#[test]
+fn others_are_not_built(rt: HostRuntime) -> Result<(), Fail> {
+    for text in &OTHERS {
+        let got = status(rt.alloc(), &["run", "f.c"], text.as_bytes(), NOT_BUILT)?;
+        assert_eq!(rt; got, Some(124), "{text}");
+        let got = status(rt.alloc(), &["check", "f.c"], text.as_bytes(), "")?;
+        assert_eq!(rt; got, Some(0), "{text}");
+    }
+    Ok(())
+}
+
 // The status of a run with this input, if it notes nothing and writes this.
 fn status_of_run(
     alloc: Global,
@@ -310,7 +357,7 @@ const ECHO: &str = "int main(void) { int c; while ((c = getchar()) != EOF) putch
 const GCD: &str =
     "int read(void) { int n = 0; int c; while ((c = getchar()) >= '0' && c <= '9') n = n * 10 + c - '0'; return n; }
 void print(int n) { if (n >= 10) print(n / 10); putchar('0' + n % 10); }
-int main(void) { int a = read(); int b = read(); while (b != 0) { int r = a % b; a = b; b = r; } print(a); putchar('\n'); return 0; }";
+int main(void) { int a = read(); int b = read(); while (b != 0) { int r = a % b; a = b; b = r; } print(a); putchar('\\n'); return 0; }";
 
 #[test]
 fn programs_talk(rt: HostRuntime) -> Result<(), Fail> {
@@ -321,25 +368,41 @@ fn programs_talk(rt: HostRuntime) -> Result<(), Fail> {
     Ok(())
 }
 
-// A main of so many locals.
-fn locals(alloc: Global, count: u32) -> Result<String, AllocError> {
+// A main of so many locals that returns this.
+fn locals(alloc: Global, count: u32, returned: &str) -> Result<String, AllocError> {
     let mut text = String::from_str(alloc, "int main(void) {")?;
     for _ in 0..count {
         text.push_str("{ int x; }")?;
     }
-    text.push_str("return 0; }")?;
+    text.push_str("return ")?;
+    text.push_str(returned)?;
+    text.push_str("; }")?;
     Ok(text)
 }
 
+const FULL: &str = "baggy: refused TooManyValues main count 251\n";
+
+// How many locals, what main returns, the status and the note: a layer that comes first refuses first.
+const LAYERS: [(u32, &str, u8, &str); 6] = [
+    (246, "0", 0, ""),
+    (247, "0", 124, FULL),
+    (247, "*(int *)0", 124, FULL),
+    (247, "y", 124, "baggy: refused Unknown y at line 1\n"),
+    (
+        247,
+        "y +",
+        124,
+        "baggy: refused Syntax token 1244 at line 1\n",
+    ),
+    (247, "y + @", 124, "baggy: refused BadByte at line 1\n"),
+];
+
 #[test]
-fn locals_are_counted(rt: HostRuntime) -> Result<(), Fail> {
-    for (count, ended, noted) in [
-        (246, 0, ""),
-        (247, 124, "baggy: refused TooManyValues main count 251\n"),
-    ] {
-        let text = locals(rt.alloc(), count)?;
+fn layers_refuse_in_order(rt: HostRuntime) -> Result<(), Fail> {
+    for (count, returned, ended, noted) in &LAYERS {
+        let text = locals(rt.alloc(), *count, returned)?;
         let got = status(rt.alloc(), &["run", "f.c"], text.as_bytes(), noted)?;
-        assert_eq!(rt; got, Some(ended), "{count}");
+        assert_eq!(rt; got, Some(*ended), "{count} {returned}");
     }
     Ok(())
 }

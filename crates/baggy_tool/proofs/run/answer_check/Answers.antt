@@ -1,4 +1,4 @@
-use Rattle.std.proofs.Common.{ℕ, List, None, ap, subst}
+use Rattle.std.proofs.Common.{ℕ, List, None, subst}
 use Rattle.baggy_tool.specs.Calls.{Files, files, AnswersCheck}
 use Rattle.baggy_tool.proofs.Answering.{file_checks}
 use Rattle.baggy_tool.proofs.run.answer_check.Goals as goal

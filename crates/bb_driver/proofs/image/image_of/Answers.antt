@@ -1,10 +1,9 @@
-use Rattle.std.proofs.Common.{◌≡◌, ◌∙◌, ◌≤◌, [], ap, length, refl, sym, arith}
+use Rattle.std.proofs.Common.{◌∙◌, ◌≤◌, [], ap, length, refl, sym, arith}
 use Rattle.std.proofs.lemmas.List.{length-map}
 use Rattle.std.specs.Prelude.{replicate}
 use Rattle.mid_code.specs.Views.{program_of, function_of}
 use Rattle.flat_code.specs.CodeViews.{code_of}
 use Rattle.flat_code.specs.Weight.{weight}
-use Rattle.rv_asm.specs.Parts.{AreParts}
 use Rattle.rv_image.specs.declared.image.Image.{Image}
 use Rattle.rv_select.specs.Selection.{selected}
 use Rattle.bb_driver.proofs.Images.{IsPlain, made}

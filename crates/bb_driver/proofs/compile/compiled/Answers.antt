@@ -1,0 +1,35 @@
+use Rattle.std.proofs.Common.{sym, subst}
+use Rattle.std.proofs.lemmas.Result.{err_from_is_err_and}
+use Rattle.c_typed.specs.TypedViews.{program_of}
+use Rattle.mid_code.specs.Formed.{Formed}
+use Rattle.lowering.specs.Keeps.{Keeps}
+use Rattle.bounds_instr.specs.Built as instr
+use Rattle.bb_driver.specs.Compiles.{IsMade}
+use Rattle.bb_driver.proofs.Made.{MadeLaws, right}
+use Rattle.bb_driver.proofs.Reading.{coded, lower_compiles}
+use Rattle.bb_driver.proofs.compile.compiled.Goals as goal
+
+pub returns-in_err-mid : goal.returns-in_err-mid
+returns-in_err-mid c =
+    let q = err_from_is_err_and c.from_residual-in_err-mid.result c.from_residual-in_err-mid.ensures.1 in
+    rw (q.1, q.2) (lower_compiles c.args.text.now (program_of c.in_ok-program.program) c.in_err-mid.field-0.0 c.in_ok-program.ensures.0 c.in_err-mid.ensures)
+
+pub image_of-requires-clause-built : goal.image_of-requires-clause-built
+image_of-requires-clause-built c =
+    let p = program_of c.in_ok-program.program in
+    let code = c.in_ok-mid.ensures.3 in
+    subst instr.IsBuilt (sym code.is) (c.code_is_built.ensures p c.in_ok-mid.ensures.2).1
+
+pub returns : goal.returns
+returns c =
+    let p = program_of c.in_ok-program.program in
+    let read = c.in_ok-program.ensures in
+    let code = c.in_ok-mid.ensures.3 in
+    let laws : MadeLaws = record { right = c.layers_make_right.ensures; runs = c.selection_runs.ensures; fits = c.code_fits.ensures; main = c.main_fits.ensures; frameless = c.no_frames.ensures } in
+    let image = c.in_ok-image_of.field-0 in
+    record {
+      program = p;
+      accepted = coded c.args.text.now p c.in_ok-mid.mid read.0 c.in_ok-mid.ensures;
+      built = c.in_ok-mid.ensures.2;
+      right = right laws p image read.1 c.in_ok-mid.ensures.2 (subst Formed code.is code.formed) (subst (λ q. IsMade q image) code.is c.in_ok-image_of.ensures) (subst (Keeps p) code.is code.keeps);
+    }
