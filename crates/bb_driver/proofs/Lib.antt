@@ -6,3 +6,4 @@ pub mod Made
 pub mod Reading
 pub mod Images
 pub mod Unique
+pub mod OneRefusal

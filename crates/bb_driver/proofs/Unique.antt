@@ -34,7 +34,7 @@ ok_is {A} {E} x y e = ap or_first e
     or_first (Ok z) = z
     or_first (Err f) = x
 
-no_error : {A E : Type 0} (x : A) (f : E) → (let r : Result A E = Ok x in r ≡ Err f) → ⊥
+pub no_error : {A E : Type 0} (x : A) (f : E) → (let r : Result A E = Ok x in r ≡ Err f) → ⊥
 no_error {A} {E} x f e = true≢false (ap is_value e)
   where
     is_value : Result A E → Bool
@@ -46,19 +46,19 @@ of_found : {A : Type 0} (P : A → Type 0) (xs : List A) (k : ℕ) (x : A) → A
 of_found P xs k x all e = subst P (get_or_from_slice_get xs k x x e) (all k x (slice_get_within xs k x e))
 
 module _ (reading : HasOneReading) (unit : HasOneUnit) (fine : IsNotRefused) where
-  tokens_are : (text : List ℕ) (a b : List Lexeme) → Lexes text (Ok a) → Lexes text (Ok b) → a ≡ b
+  pub tokens_are : (text : List ℕ) (a b : List Lexeme) → Lexes text (Ok a) → Lexes text (Ok b) → a ≡ b
   tokens_are text a b x y = ok_is a b ((reading text).2 (Ok a) x ∙ sym ((reading text).2 (Ok b) y))
 
-  not_lexed : (text : List ℕ) (a : List Lexeme) (f : LexError) → Lexes text (Ok a) → Lexes text (Err f) → ⊥
+  pub not_lexed : (text : List ℕ) (a : List Lexeme) (f : LexError) → Lexes text (Ok a) → Lexes text (Err f) → ⊥
   not_lexed text a f x y = no_error a f ((reading text).2 (Ok a) x ∙ sym ((reading text).2 (Err f) y))
 
-  trees_are : (text : List ℕ) (s t : UnitTree) → Reads text s → Reads text t → s ≡ t
+  pub trees_are : (text : List ℕ) (s t : UnitTree) → Reads text s → Reads text t → s ≡ t
   trees_are text s t x y = unit within_limits (placed y.0) s t (subst (λ ts. Derives within_limits (placed ts) s) (tokens_are text x.0 y.0 x.1 y.1) x.2) y.2
 
-  one_program : (text : List ℕ) (p q : CProgram) → Means text p → Means text q → p ≡ q
+  pub one_program : (text : List ℕ) (p q : CProgram) → Means text p → Means text q → p ≡ q
   one_program text p q x y = ok_is p q (sym x.2 ∙ ap typed_unit (trees_are text x.0 y.0 x.1 y.1) ∙ y.2)
 
-  not_failed : (text : List ℕ) (t : UnitTree) (why : Refusal) (token line : ℕ) → Reads text t → FailsAt text why token line → ⊥
+  pub not_failed : (text : List ℕ) (t : UnitTree) (why : Refusal) (token line : ℕ) → Reads text t → FailsAt text why token line → ⊥
   not_failed text t why token line x y = fine (placed y.0) t why token (subst (λ ts. Derives within_limits (placed ts) t) (tokens_are text x.0 y.0 x.1 y.1) x.2) y.2
 
   within : (p : CProgram) (e : LowerError) → (text : List ℕ) → Accepts text p → PassesLimit p e → ⊥
@@ -95,8 +95,8 @@ module _ (reading : HasOneReading) (unit : HasOneUnit) (fine : IsNotRefused) whe
   not_refused text p (compile.Lower f) a h = within p f text a (subst (λ q. PassesLimit q f) (one_program text h.0 p h.1 a.0) h.2)
   not_refused text p compile.Memory a h = h
 
-  pub one_answer : HasOneAnswer
-  one_answer = record { program = one_program; answer = not_refused }
+  pub one_answer : ((text : List ℕ) (e f : CompileError) → Refuses text e → Refuses text f → e ≡ f) → HasOneAnswer
+  one_answer refusal = record { program = one_program; answer = not_refused; refusal = refusal }
 
 -- a text whose program is built is not refused
 module _ (one : HasOneAnswer) (text : List ℕ) (p : CProgram) (accepted : Accepts text p) (built : IsBuilt p) where

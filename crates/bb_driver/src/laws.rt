@@ -17,12 +17,13 @@ pub fn layers_make_right()
     rv_machine::laws::table_is_kept();
 }
 
-/// A text is the file of one program at most, and one that is accepted is not refused. So each answer of the compiler comes
-/// exactly where it holds.
+/// A text is the file of one program at most, one that is accepted is not refused, and one that is refused is refused in one
+/// way. So each answer of the compiler comes exactly where it holds.
 pub fn one_answer()
     ensures { HasOneAnswer }
 {
     c_lexer::one_reading();
     c_parser::one_unit();
     c_tree::syntax::grammar::not_refused();
+    c_tree::syntax::grammar::one_refusal();
 }
