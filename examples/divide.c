@@ -1,4 +1,4 @@
-// Divides by the number of bytes of the input: an empty input ends the run with `baggy: report DivZero at line 8`.
+// Divides by the number of bytes of the input: an empty input ends the run with `baggy: report DivZero at line 7`.
 #include <stdio.h>
 
 int main(void) {

@@ -38,17 +38,17 @@ front_more told told' old new n f s h = more told (piece_told told told' old new
     more (Holds bytes) p f = take_own new bytes (length old + n) (p.0 ∙ ap (λ (l : List ℕ). l ++ take n (drop (length old) bytes)) f ∙ sym (take-add (length old) n bytes))
 
 -- none was left of the file
-pub front_end : (most : ℕ) (told told' : Told) (old new : List ℕ) (n : ℕ) → IsFront told old → Stays told told' → length old ≤ most + 1 → n ≡ 0 → PieceRead told' old new (Ok n) → IsFile most told new
-front_end most told told' old new n f s l z h = end told (piece_told told told' old new (Ok 0) s (subst (λ (k : ℕ). PieceRead told' old new (Ok k)) z h)) f
+pub front_end : (most : ℕ) (told told' : Told) (old new : List ℕ) (n : ℕ) → IsFront told old → Stays told told' → length old ≤ most + 1 → length new ≤ most + 1 → n ≡ 0 → PieceRead told' old new (Ok n) → IsFile most told new
+front_end most told told' old new n f s l k z h = end told (piece_told told told' old new (Ok 0) s (subst (λ (i : ℕ). PieceRead told' old new (Ok i)) z h)) f
   where
     end : (t : Told) → PieceRead t old new (Ok 0) → IsFront t old → IsFile most t new
-    end Untold p f = tt
+    end Untold p f = k
     end Missing p f = p
     end (Holds bytes) p f = whole_is (most + 1) old new bytes p.0 f (p.1 refl) l
 
 -- as many were read as may be
 pub front_full : (most : ℕ) (told : Told) (text : List ℕ) → IsFront told text → length text ≡ most + 1 → IsFile most told text
-front_full most Untold text f l = tt
+front_full most Untold text f l = omega (arith, l)
 front_full most Missing text f l = omega (arith, ap length f)
 front_full most (Holds bytes) text f l = f ∙ ap (λ (n : ℕ). take n bytes) l
 

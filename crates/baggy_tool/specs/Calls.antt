@@ -19,7 +19,7 @@ use Rattle.baggy_tool.specs.declared.ending.Refusal.TheVariants as refusal
 use Rattle.bb_driver.specs.Compiles.{IsImageOf}
 use Rattle.bb_driver.specs.Sources.{IsAccepted}
 use Rattle.bb_driver.specs.Sources as driver
-use Rattle.baggy_tool.specs.Accepted.{Refuses}
+use Rattle.baggy_tool.specs.Refusals.{Refuses}
 use Rattle.baggy_tool.specs.Endings.{status_of, ending_of, line_of}
 use Rattle.baggy_tool.specs.Files.{most_source, most_image, IsFile, IsAbsent}
 use Rattle.baggy_tool.specs.Notes.{IsAppended, IsCutOff}

@@ -1,5 +1,5 @@
 -- The bytes of a file that were read.
-use Rattle.std.specs.Prelude.{◌≡◌, ◌+◌, List, ℕ, take}
+use Rattle.std.specs.Prelude.{◌≡◌, ◌+◌, ◌≤◌, List, ℕ, length, take}
 use Rattle.bb_outside.specs.Files.{Told, Untold, Missing, Holds}
 
 -- how many bytes a source may have
@@ -11,9 +11,9 @@ abbrev pub most_image : ℕ
 most_image = 4333500
 
 -- The text is the file's, or, of a file that has more than so many bytes, the first of them and one more. A shelf that
--- doesn't tell its files may have given any text.
+-- doesn't tell its files may have given any text that is no longer.
 abbrev pub IsFile : ℕ → Told → List ℕ → Type 0
-IsFile most Untold text = Unit {0}
+IsFile most Untold text = length text ≤ most + 1
 IsFile most Missing text = ⊥
 IsFile most (Holds bytes) text = text ≡ take (most + 1) bytes
 

@@ -1,6 +1,6 @@
 pub mod Decimal
 pub mod Words
-pub mod Accepted
+pub mod Refusals
 pub mod Endings
 pub mod Files
 pub mod Building

@@ -13,7 +13,7 @@ use crate::ending::{Ended, Ending, Refusal, ending_of, status_of};
 use crate::notes::note;
 use crate::reader::{MAX_IMAGE, MAX_SOURCE, ReadError, read_file};
 use crate::words::{Command, command_in};
-use bb_driver::compile::compile;
+use bb_driver::compile::{Compiled, compile};
 use bb_driver::error::CompileError;
 use bb_driver::source::check;
 use bb_outside::{Shelf, ShelfFailed, Sink, Source};
@@ -192,7 +192,7 @@ fn run_text<I: Source, O: Sink>(
 {
     match compile(alloc, text) {
         Err(error) => without_image(refused(error)),
-        Ok(image) => run_image(alloc, image, steps, input, output),
+        Ok(Compiled { image, .. }) => run_image(alloc, image, steps, input, output),
     }
 }
 
@@ -228,7 +228,7 @@ fn write_text<F: Shelf>(alloc: Global, text: &[u8], path: &str, shelf: &mut F) -
 {
     match compile(alloc, text) {
         Err(error) => without_image(refused(error)),
-        Ok(image) => write_image(alloc, image, path, shelf),
+        Ok(Compiled { image, .. }) => write_image(alloc, image, path, shelf),
     }
 }
 

@@ -1,6 +1,9 @@
 -- The image of resolved parts keeps the rules of images, and is made of the code.
+use Rattle.flat_verify.specs.declared.error.VerifyError.TheVariants.{Unchecked}
+use Rattle.flat_verify.specs.declared.error.VerifyError.{VerifyError}
+use Rattle.flat_verify.specs.Answer.{IsNoRefusal}
 use Rattle.std.proofs.Common.{◌≡◌, ℕ, zero, suc, ◌≤◌, ◌+◌, ◌*◌, List, [], length, refl, sym, ap, ◌∙◌, subst, arith, lit≤}
-use Rattle.std.specs.Prelude.{replicate}
+use Rattle.std.specs.Prelude.{replicate, Result, Err}
 use Rattle.std.proofs.lemmas.List.{length-replicate}
 use Rattle.size_table.specs.declared.memory_map.TheConstants.{TEXT_START}
 use Rattle.mid_code.specs.Code.{Program}
@@ -16,6 +19,7 @@ use Rattle.rv_asm.specs.Parts.{AreParts}
 use Rattle.rv_asm.specs.Runs.{IsResolved}
 use Rattle.rv_asm.specs.Text.{text_of}
 use Rattle.rv_select.specs.Selection.{selected}
+use Rattle.rv_select.specs.Shape.{HasShape}
 use Rattle.bb_driver.specs.Compiles.{no_sites, IsMade}
 
 -- frames without objects keep the rules
@@ -31,6 +35,10 @@ no_blocks (suc n) = ap (λ k. length {A = ℕ} [] + k) (no_blocks n)
 some_words : (code : FCode) (text : List ℕ) (labels : ℕ → ℕ) → text ≡ text_of labels 4096 (selected 4 code) → 1 ≤ length text
 some_words code text labels e = let n = ap length e in omega (arith, n)
 
+-- what is not refused is not unchecked
+pub refused : (e : VerifyError) (f p : ℕ) → e ≡ Unchecked f p → (let r : Result (Unit {0}) VerifyError = Err e in IsNoRefusal r) → ⊥
+refused e f p is h = subst (λ x. let r : Result (Unit {0}) VerifyError = Err x in IsNoRefusal r) is h
+
 -- what an image is, field by field
 pub record IsPlain (image : Image) (functions : ℕ) : Type 0 where
   pub version : image.version ≡ 1
@@ -40,7 +48,7 @@ pub record IsPlain (image : Image) (functions : ℕ) : Type 0 where
   pub initial : image.initial ≡ []
 
 module _ (p : Program) (code : FCode) (parts : List Part) (image : Image) (plain : IsPlain image (length p.functions)) (few : length p.functions ≤ 1000)
-    (instruments : Instruments 4 p code) (are : AreParts parts) (same : parts ≡ selected 4 code) (resolved : IsResolved parts image.text) where
+    (instruments : Instruments 4 p code) (are : AreParts parts) (same : parts ≡ selected 4 code) (resolved : IsResolved parts image.text) (shape : HasShape image.text) where
   some : 1 ≤ length image.text
   some = some_words code image.text resolved.labels (resolved.words ∙ ap (text_of resolved.labels 4096) same)
 
@@ -75,6 +83,7 @@ module _ (p : Program) (code : FCode) (parts : List Part) (image : Image) (plain
     disciplined = subst (IsDisciplined 4 (global_blocks 4 p)) instruments.is instruments.disciplined;
     rules = rules;
     resolved = subst (λ q. IsResolved q image.text) (same ∙ ap (selected 4) instruments.is) resolved;
+    shape = shape;
     entry = plain.entry;
     globals = plain.globals;
     frames = plain.frames;

@@ -1,15 +1,52 @@
 -- What reading a text, and lowering its program, say of the text.
 use Rattle.std.proofs.Common.{ℕ, List}
 use Rattle.std.specs.Prelude.{Ok, Err}
+use Rattle.c_lexer.specs.Text.{Lexeme, Lexes, placed}
+use Rattle.c_lexer.specs.Views.{IsRefusal}
+use Rattle.c_lexer.specs.declared.fault.LexError.{LexError}
+use Rattle.c_lexer.specs.declared.fault.LexError.TheVariants as lex
+use Rattle.c_tree.specs.Syntax.{UnitTree}
+use Rattle.c_parser.specs.Parse.{IsAnswer}
+use Rattle.c_parser.specs.declared.parser.ParseError.{ParseError}
+use Rattle.c_parser.specs.declared.parser.ParseError.TheVariants as parse
+use Rattle.c_rules.specs.Rule.{Fails}
+use Rattle.c_rules.specs.declared.error.TypeError.{TypeError}
+use Rattle.c_rules.specs.declared.error.TypeError.TheVariants as typing
 use Rattle.c_typed.specs.TypedTree.{CProgram}
+use Rattle.c_typing.specs.Units.{typed_unit}
 use Rattle.mid_code.specs.declared.code.Mid.{Mid}
 use Rattle.lowering.specs.declared.error.LowerError.{LowerError}
 use Rattle.lowering.specs.declared.error.LowerError.TheVariants as lower
 use Rattle.lowering.specs.Lowers.{IsLowered}
 use Rattle.bb_driver.specs.declared.error.CompileError.{CompileError}
 use Rattle.bb_driver.specs.declared.error.CompileError.TheVariants as compile
-use Rattle.bb_driver.specs.Sources.{Means, Accepts, ReadsProgram, Checks, of_lower, limit_of}
+use Rattle.bb_driver.specs.Sources.{Means, Accepts, ReadsProgram, Checks, of_lower, limit_of, Reads, of_lex, of_parse, of_typing}
 use Rattle.bb_driver.specs.Compiles.{Compiles}
+
+-- what the lexer refuses is refused, and so on
+pub lex_refuses : (text : List ℕ) (e : LexError) → IsRefusal text e → ReadsProgram text (Err (of_lex e))
+lex_refuses text lex.Memory h = tt
+lex_refuses text (lex.TooLong n) h = h
+lex_refuses text (lex.BadByte line) h = h
+lex_refuses text (lex.BadNumber line) h = h
+lex_refuses text (lex.BadEscape line) h = h
+lex_refuses text (lex.Unclosed line) h = h
+lex_refuses text (lex.BadDirective line) h = h
+
+pub parse_refuses : (text : List ℕ) (tokens : List Lexeme) (e : ParseError) → Lexes text (Ok tokens) → IsAnswer (placed tokens) (Err e) → ReadsProgram text (Err (of_parse e))
+parse_refuses text tokens parse.Memory l a = tt
+parse_refuses text tokens (parse.Syntax token line) l a = (tokens, l, a.0, a.1)
+parse_refuses text tokens (parse.TooDeep token line) l a = (tokens, l, a.0, a.1)
+
+pub typing_refuses : (text : List ℕ) (tree : UnitTree) (e : TypeError) → Reads text tree → Fails e (typed_unit tree) → ReadsProgram text (Err (of_typing e))
+typing_refuses text tree typing.Memory r h = tt
+typing_refuses text tree (typing.Unknown line x) r h = (tree, r, h)
+typing_refuses text tree (typing.Twice line x) r h = (tree, r, h)
+typing_refuses text tree (typing.BadType line n) r h = (tree, r, h)
+typing_refuses text tree typing.NoMain r h = (tree, r, h)
+typing_refuses text tree (typing.TooLarge line n) r h = (tree, r, h)
+typing_refuses text tree (typing.TooManyParams line) r h = (tree, r, h)
+typing_refuses text tree (typing.TooManyFunctions line) r h = (tree, r, h)
 
 -- a program that has code is within the limits, and so is one that is not built
 pub coded : (text : List ℕ) (p : CProgram) (mid : Mid) → Means text p → IsLowered p (Ok mid) → Accepts text p
@@ -36,8 +73,5 @@ pub unread_compiles : (text : List ℕ) (e : CompileError) → ReadsProgram text
 unread_compiles text (compile.Lex error) h = h
 unread_compiles text (compile.Parse error) h = h
 unread_compiles text (compile.Typing error) h = h
-unread_compiles text (compile.Lower (lower.TooManyNodes count)) h = h
-unread_compiles text (compile.Lower (lower.TooManyValues name count)) h = h
-unread_compiles text (compile.Lower lower.NotBuilt) h = absurd h.2
-unread_compiles text (compile.Lower lower.Memory) h = h
+unread_compiles text (compile.Lower error) h = absurd h
 unread_compiles text compile.Memory h = tt

@@ -5,6 +5,9 @@ use Rattle.std.proofs.lemmas.Bool.{true≢false}
 use Rattle.std.proofs.lemmas.Option.{get_or_from_slice_get, slice_get_within}
 use Rattle.c_lexer.specs.Text.{Lexeme, Lexes, HasOneReading, placed}
 use Rattle.c_lexer.specs.declared.fault.LexError.{LexError}
+use Rattle.c_lexer.specs.declared.fault.LexError.TheVariants as lex
+use Rattle.c_rules.specs.declared.error.TypeError.{TypeError}
+use Rattle.c_rules.specs.declared.error.TypeError.TheVariants as typing
 use Rattle.c_tree.specs.Syntax.{UnitTree}
 use Rattle.c_tree.specs.Grammar.{Derives}
 use Rattle.c_tree.specs.GrammarLimits.{within_limits}
@@ -17,10 +20,10 @@ use Rattle.c_typing.specs.Units.{typed_unit}
 use Rattle.lowering.specs.declared.error.LowerError.{LowerError}
 use Rattle.lowering.specs.declared.error.LowerError.TheVariants as lower
 use Rattle.lowering.specs.Built.{is_built, IsBuilt}
-use Rattle.rv_image.specs.declared.image.Image.{Image}
+use Rattle.bb_driver.specs.declared.compile.Compiled.{Compiled}
 use Rattle.bb_driver.specs.declared.error.CompileError.{CompileError}
 use Rattle.bb_driver.specs.declared.error.CompileError.TheVariants as compile
-use Rattle.bb_driver.specs.Sources.{Reads, Means, Accepts, FailsAt, PassesLimit, Refuses}
+use Rattle.bb_driver.specs.Sources.{Reads, Means, Accepts, FailsAt, FailsToType, PassesLimit, Refuses}
 use Rattle.bb_driver.specs.Compiles.{Compiles, IsAnswered}
 use Rattle.bb_driver.specs.OneAnswer.{HasOneAnswer}
 
@@ -67,12 +70,28 @@ module _ (reading : HasOneReading) (unit : HasOneUnit) (fine : IsNotRefused) whe
   within p lower.NotBuilt text a h = h
   within p lower.Memory text a h = h
 
+  not_typed : (text : List ℕ) (p : CProgram) (f : TypeError) → Accepts text p → FailsToType text f → ⊥
+  not_typed text p f a h = no_error p f (sym a.0.2 ∙ ap typed_unit (trees_are text a.0.0 h.0 a.0.1 h.1) ∙ h.2)
+
   not_refused : (text : List ℕ) (p : CProgram) (e : CompileError) → Accepts text p → Refuses text e → ⊥
-  not_refused text p (compile.Lex f) a h = not_lexed text a.0.1.0 f a.0.1.1 h
+  not_refused text p (compile.Lex lex.Memory) a h = h
+  not_refused text p (compile.Lex (lex.TooLong n)) a h = not_lexed text a.0.1.0 (lex.TooLong n) a.0.1.1 h
+  not_refused text p (compile.Lex (lex.BadByte n)) a h = not_lexed text a.0.1.0 (lex.BadByte n) a.0.1.1 h
+  not_refused text p (compile.Lex (lex.BadNumber n)) a h = not_lexed text a.0.1.0 (lex.BadNumber n) a.0.1.1 h
+  not_refused text p (compile.Lex (lex.BadEscape n)) a h = not_lexed text a.0.1.0 (lex.BadEscape n) a.0.1.1 h
+  not_refused text p (compile.Lex (lex.Unclosed n)) a h = not_lexed text a.0.1.0 (lex.Unclosed n) a.0.1.1 h
+  not_refused text p (compile.Lex (lex.BadDirective n)) a h = not_lexed text a.0.1.0 (lex.BadDirective n) a.0.1.1 h
   not_refused text p (compile.Parse (parse.Syntax token line)) a h = not_failed text a.0.0 Refusal.Syntax token line a.0.1 h
   not_refused text p (compile.Parse (parse.TooDeep token line)) a h = not_failed text a.0.0 Refusal.TooDeep token line a.0.1 h
   not_refused text p (compile.Parse parse.Memory) a h = h
-  not_refused text p (compile.Typing f) a h = no_error p f (sym a.0.2 ∙ ap typed_unit (trees_are text a.0.0 h.0 a.0.1 h.1) ∙ h.2)
+  not_refused text p (compile.Typing typing.Memory) a h = h
+  not_refused text p (compile.Typing (typing.Unknown l x)) a h = not_typed text p (typing.Unknown l x) a h
+  not_refused text p (compile.Typing (typing.Twice l x)) a h = not_typed text p (typing.Twice l x) a h
+  not_refused text p (compile.Typing (typing.BadType l n)) a h = not_typed text p (typing.BadType l n) a h
+  not_refused text p (compile.Typing typing.NoMain) a h = not_typed text p typing.NoMain a h
+  not_refused text p (compile.Typing (typing.TooLarge l n)) a h = not_typed text p (typing.TooLarge l n) a h
+  not_refused text p (compile.Typing (typing.TooManyParams l)) a h = not_typed text p (typing.TooManyParams l) a h
+  not_refused text p (compile.Typing (typing.TooManyFunctions l)) a h = not_typed text p (typing.TooManyFunctions l) a h
   not_refused text p (compile.Lower f) a h = within p f text a (subst (λ q. PassesLimit q f) (one_program text h.0 p h.1 a.0) h.2)
   not_refused text p compile.Memory a h = h
 
@@ -81,8 +100,8 @@ module _ (reading : HasOneReading) (unit : HasOneUnit) (fine : IsNotRefused) whe
 
 -- a text whose program is built is not refused
 module _ (one : HasOneAnswer) (text : List ℕ) (p : CProgram) (accepted : Accepts text p) (built : IsBuilt p) where
-  pub is_answered : (r : Result Image CompileError) → Compiles text r → IsAnswered r
-  is_answered (Ok image) h = tt
+  pub is_answered : (r : Result Compiled CompileError) → Compiles text r → IsAnswered r
+  is_answered (Ok compiled) h = tt
   is_answered (Err compile.Memory) h = tt
   is_answered (Err (compile.Lex f)) h = absurd (one.answer text p (compile.Lex f) accepted h)
   is_answered (Err (compile.Parse f)) h = absurd (one.answer text p (compile.Parse f) accepted h)

@@ -3,6 +3,7 @@ use Rattle.std.specs.Prelude.{◌≡◌, ℕ, false, List, [], length, replicate
 use Rattle.c_typed.specs.TypedTree.{CProgram}
 use Rattle.injection.specs.Trail.{SafeSites}
 use Rattle.mid_code.specs.Code.{Program}
+use Rattle.mid_code.specs.Views.{program_of}
 use Rattle.bounds_instr.specs.Code.{global_blocks, instrumented}
 use Rattle.bounds_instr.specs.Keeps.{Keeps}
 use Rattle.flat_verify.specs.Discipline.{IsDisciplined}
@@ -10,9 +11,12 @@ use Rattle.rv_image.specs.declared.image.Image.{Image}
 use Rattle.rv_image.specs.Rules.{IsImage}
 use Rattle.rv_asm.specs.Runs.{IsResolved}
 use Rattle.rv_select.specs.Selection.{selected}
+use Rattle.rv_select.specs.Shape.{HasShape}
 use Rattle.lowering.specs.Built.{IsBuilt}
+use Rattle.lowering.specs.Lowers.{IsCode}
 use Rattle.lowering.specs.declared.error.LowerError.TheVariants as lower
 use Rattle.size_table.specs.declared.memory_map.TheConstants.{TEXT_START, SLOT_EXPONENT}
+use Rattle.bb_driver.specs.declared.compile.Compiled.{Compiled}
 use Rattle.bb_driver.specs.declared.error.CompileError.{CompileError}
 use Rattle.bb_driver.specs.declared.error.CompileError.TheVariants as compile
 use Rattle.bb_driver.specs.Right.{Right}
@@ -22,23 +26,29 @@ use Rattle.bb_driver.specs.Sources.{Accepts, Refuses, IsNotBuilt}
 abbrev pub no_sites : SafeSites
 no_sites site = false
 
--- the text is accepted with a program, and the image is right for it
+-- the text is accepted with a program, and the image is right for it; its text leaves the spare registers alone
 pub record IsImageOf (text : List ℕ) (image : Image) : Type 0 where
   pub program : CProgram
   pub accepted : Accepts text program
   pub built : IsBuilt program
   pub right : Right SLOT_EXPONENT program no_sites image
+  pub shape : HasShape image.text
+
+-- The image is right for the program of the text, and was made of this mid code, which means what the program means.
+pub record IsCompiled (text : List ℕ) (compiled : Compiled) : Type 0 where
+  pub image : IsImageOf text compiled.image
+  pub code : IsCode image.program (program_of compiled.mid)
 
 -- The image is right for the program of the text, or the text is refused, or its program is not built.
-abbrev pub Compiles : List ℕ → Result Image CompileError → Type 0
-Compiles text (Ok image) = IsImageOf text image
+abbrev pub Compiles : List ℕ → Result Compiled CompileError → Type 0
+Compiles text (Ok compiled) = IsCompiled text compiled
 Compiles text (Err compile.Memory) = Unit {0}
 Compiles text (Err (compile.Lower lower.NotBuilt)) = IsNotBuilt text
 Compiles text (Err error) = Refuses text error
 
 -- the text has an image, unless memory was wanting
-abbrev pub IsAnswered : Result Image CompileError → Type 0
-IsAnswered (Ok image) = Unit {0}
+abbrev pub IsAnswered : Result Compiled CompileError → Type 0
+IsAnswered (Ok compiled) = Unit {0}
 IsAnswered (Err compile.Memory) = Unit {0}
 IsAnswered (Err error) = ⊥
 
@@ -51,6 +61,7 @@ pub record IsMade (p : Program) (image : Image) : Type 0 where
   pub disciplined : IsDisciplined SLOT_EXPONENT (global_blocks SLOT_EXPONENT p) (instrumented SLOT_EXPONENT p)
   pub rules : IsImage image
   pub resolved : IsResolved (selected SLOT_EXPONENT (instrumented SLOT_EXPONENT p)) image.text
+  pub shape : HasShape image.text
   pub entry : image.entry ≡ TEXT_START
   pub globals : image.globals ≡ []
   pub frames : image.frames ≡ replicate (length p.functions) []

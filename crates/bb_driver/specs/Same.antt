@@ -1,4 +1,4 @@
--- When the runs of an image mean what the program means: as often as the source keeps its objects, the image ends as it does,
+-- When the runs of an image mean what the program means: as long as the source keeps its objects, the image ends as it does,
 -- with its output and its trail, in the instructions that it pays for.
 use Rattle.std.specs.Prelude.{◌≡◌, ◌⊎◌, ℕ, ◌≤◌, ◌<◌, ◌%◌, pos, true, List, [], ◌∷◌, Option, Some, None, IsSome, slice_get}
 use Rattle.bb_watch.specs.declared.event.Event.{Event}
@@ -106,4 +106,5 @@ pub record Same (source : ℕ → Outcome) (safe : SafeSites) (after : ℕ → m
   -- where it leaves them, the machine has told all that was told until then, or is still on the way there
   pub outside : (n : ℕ) → IsOutside (source n).ending →
       (((after n).machine.ending ≡ None) × TellsUpTo safe (after n) (source n).state.world) ⊎ TellsFrom safe (after n) (source n).state.world
+  -- and moves of the sites that are left unchecked stay in their objects
   pub inside : (m : ℕ) → SafeSitesHold safe (source m).state.world.objects (source m).state.world.trail

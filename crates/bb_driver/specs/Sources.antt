@@ -66,10 +66,12 @@ PassesLimit p lower.Memory = ⊥
 
 -- the text is refused so: by tokens, grammar, typing and limits, in this order
 abbrev pub Refuses : List ℕ → CompileError → Type 0
+Refuses text (compile.Lex lex.Memory) = ⊥
 Refuses text (compile.Lex error) = Lexes text (Err error)
 Refuses text (compile.Parse (parse.Syntax token line)) = FailsAt text Refusal.Syntax token line
 Refuses text (compile.Parse (parse.TooDeep token line)) = FailsAt text Refusal.TooDeep token line
 Refuses text (compile.Parse parse.Memory) = ⊥
+Refuses text (compile.Typing typing.Memory) = ⊥
 Refuses text (compile.Typing error) = FailsToType text error
 Refuses text (compile.Lower error) = (p : CProgram) × Means text p × PassesLimit p error
 Refuses text compile.Memory = ⊥
@@ -102,10 +104,11 @@ abbrev pub limit_of : LowerError → Result Unit CompileError
 limit_of lower.NotBuilt = Ok tt
 limit_of error = Err (of_lower error)
 
--- the typed program is that of the text, and keeps the rules of typing; or the refusal is that of the text
+-- the typed program is that of the text, and keeps the rules of typing; or the refusal is that of the text, and no limit
 abbrev pub ReadsProgram : List ℕ → Result TypedProgram CompileError → Type 0
 ReadsProgram text (Ok program) = Means text (program_of program) × Typed (program_of program) × HasLines (program_of program)
 ReadsProgram text (Err compile.Memory) = Unit {0}
+ReadsProgram text (Err (compile.Lower error)) = ⊥
 ReadsProgram text (Err error) = Refuses text error
 
 -- the text is accepted, or refused so

@@ -10,24 +10,34 @@ use crate::image::image_of;
 use crate::laws::{layers_make_right, one_answer};
 use crate::source::read;
 use lowering::lower::lower;
+use mid_code::code::Mid;
 use rv_image::image::Image;
 use std::alloc::Global;
+
+/// What a text is compiled to.
+#[derive(Drop)]
+pub struct Compiled {
+    /// The image, which is right for the program of the text.
+    pub image: Image,
+    /// The mid code that it was made of.
+    pub mid: Mid,
+}
 
 /// The image of a text: the text is accepted, and the image is right for its program. So each of its runs is safe, and does
 /// what the program means. Or the first refusal of tokens, grammar, typing and limits, in this order; or the program is
 /// accepted and has a form that is not built.
-pub fn compile(alloc: Global, text: &[u8]) -> Result<Image, CompileError>
+pub fn compile(alloc: Global, text: &[u8]) -> Result<Compiled, CompileError>
     requires { length text.now < 2 ^ 32 }
     ensures answers { Compiles text.now result }
     // So a text that is accepted, and whose program is built, is compiled, unless memory runs out.
     ensures complete { (p : CProgram) → Accepts text.now p → IsBuilt p → IsAnswered result }
 {
     one_answer();
-    compiled(alloc, text)
+    image_or_refusal(alloc, text)
 }
 
-// The image of a text, or why it has none.
-fn compiled(alloc: Global, text: &[u8]) -> Result<Image, CompileError>
+// What a text is compiled to, or why it has no image.
+fn image_or_refusal(alloc: Global, text: &[u8]) -> Result<Compiled, CompileError>
     requires { length text.now < 2 ^ 32 }
     ensures { Compiles text.now result }
 {
@@ -39,5 +49,6 @@ fn compiled(alloc: Global, text: &[u8]) -> Result<Image, CompileError>
     select_runs::laws::selection_runs();
     let program = read(alloc, text)?;
     let mid = lower(alloc, &program)?;
-    Ok(image_of(alloc, &mid)?)
+    let image = image_of(alloc, &mid)?;
+    Ok(Compiled { image, mid })
 }

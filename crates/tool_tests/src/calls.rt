@@ -65,11 +65,11 @@ const WORDS: [(&[&str], u8, &str); 28] = [
         123,
         "baggy: out of steps\n",
     ),
-    (&["run", "f.c", "--steps", "500"], 42, ""),
-    (&["--steps", "500", "run", "f.c"], 42, ""),
-    (&["run", "--steps", "500", "f.c"], 42, ""),
-    (&["run", "--steps=500", "f.c"], 42, ""),
-    (&["run", "--steps", "500", "--", "f.c"], 42, ""),
+    (&["run", "f.c", "--steps", "4096"], 42, ""),
+    (&["--steps", "4096", "run", "f.c"], 42, ""),
+    (&["run", "--steps", "4096", "f.c"], 42, ""),
+    (&["run", "--steps=4096", "f.c"], 42, ""),
+    (&["run", "--steps", "4096", "--", "f.c"], 42, ""),
     (&["compile", "--out=p", "f.c"], 0, ""),
     (&["run", "f.c", "--steps", "1000000000000"], 42, ""),
     (&["run", "f.c", "--steps", "1000000000001"], 125, USAGE),
@@ -100,7 +100,7 @@ const WORDS: [(&[&str], u8, &str); 28] = [
 fn words_are_read(rt: HostRuntime) -> Result<(), Fail> {
     for (words, ended, noted) in &WORDS {
         let got = status(rt.alloc(), words, b"int main(void){return 42;}", noted)?;
-        assert_eq!(rt; got, Some(*ended), "{}", words.len());
+        assert_eq!(rt; got, Some(*ended), "{noted} of {} words", words.len());
     }
     Ok(())
 }
@@ -108,7 +108,7 @@ fn words_are_read(rt: HostRuntime) -> Result<(), Fail> {
 const NOT_BUILT: &str = "baggy: refused NotBuilt\n";
 
 // A text, the statuses of its run and of its check, and the notes of each. Nothing is read or written.
-const TEXTS: [(&str, u8, &str, u8, &str); 26] = [
+const TEXTS: [(&str, u8, &str, u8, &str); 28] = [
     (
         "int main(void) { return 1 - (2 - 3) - 300; }",
         214,
@@ -132,7 +132,7 @@ const TEXTS: [(&str, u8, &str, u8, &str); 26] = [
     ),
     ("int main(void){return 010 + 0x10 + 'a';}", 121, "", 0, ""),
     (DEEP, 0, "", 0, ""),
-    (TOO_DEEP, 121, "baggy: report Depth at line 1\n", 0, ""),
+    (DEEPER, 121, "baggy: report Depth at line 1\n", 0, ""),
     (LEAST, 1, "", 0, ""),
     (CONVERTED, 3, "", 0, ""),
     (
@@ -204,16 +204,18 @@ const TEXTS: [(&str, u8, &str, u8, &str); 26] = [
         124,
         NO_OPERAND,
     ),
-    ("int\nx = 2147483648;", 124, TOO_LARGE, 124, TOO_LARGE),
+    ("int\nx = 2147483648;", 124, LARGE_NUMBER, 124, LARGE_NUMBER),
     ("int x = 'ab';", 124, TWO_ELEMENTS, 124, TWO_ELEMENTS),
     ("/*", 124, NO_END, 124, NO_END),
+    ("int x = 08;", 124, BAD_NUMBER, 124, BAD_NUMBER),
+    ("#define N 3", 124, BAD_DIRECTIVE, 124, BAD_DIRECTIVE),
 ];
 
 // 4,096 calls at once, and one more.
 const DEEP: &str =
     "int f(int n) { if (n == 0) return 0; return f(n - 1); } int main(void) { return f(4094); }";
 
-const TOO_DEEP: &str =
+const DEEPER: &str =
     "int f(int n) { if (n == 0) return 0; return f(n - 1); } int main(void) { return f(4095); }";
 
 // The least number by -1.
@@ -246,9 +248,13 @@ const NO_BRACKET: &str = "baggy: refused Syntax token 9 at line 1\n";
 
 const NO_OPERAND: &str = "baggy: refused Syntax token 8 at line 3\n";
 
-const TOO_LARGE: &str = "baggy: refused BadNumber at line 2\n";
+const LARGE_NUMBER: &str = "baggy: refused BadNumber at line 2\n";
 
 const TWO_ELEMENTS: &str = "baggy: refused BadEscape at line 1\n";
+
+const BAD_NUMBER: &str = "baggy: refused BadNumber at line 1\n";
+
+const BAD_DIRECTIVE: &str = "baggy: refused BadDirective at line 1\n";
 
 const NO_END: &str = "baggy: refused Unclosed at line 1\n";
 
@@ -336,6 +342,62 @@ fn status_of_run(
     } else {
         Ok(None)
     }
+}
+
+// A program that does not end is stopped after its instructions.
+#[test]
+fn endless_is_stopped(rt: HostRuntime) -> Result<(), Fail> {
+    let words = ["run", "f.c", "--steps", "1000"];
+    let text = b"int main(void) { while (1) ; }";
+    let got = status(rt.alloc(), &words, text, "baggy: out of steps\n")?;
+    assert_eq!(rt; got, Some(123));
+    Ok(())
+}
+
+// The calls of the input and of the output that fail, the status, the output and the note of a program that copies its input
+// of two bytes.
+const COPIES: [(&[u32], &[u32], u8, &[u8], &str); 4] = [
+    (&[], &[], 0, b"ab", ""),
+    (&[0], &[], 126, b"", "baggy: read fault\n"),
+    (&[1], &[], 126, b"a", "baggy: read fault\n"),
+    (&[], &[1], 126, b"a", "baggy: write fault\n"),
+];
+
+#[test]
+fn faults_of_streams_are_answered(rt: HostRuntime) -> Result<(), Fail> {
+    let alloc = rt.alloc();
+    for (takes, puts, ended, written, noted) in &COPIES {
+        let mut shelf = MemShelf::new(alloc, &[])?;
+        shelf.add("f.c", ECHO.as_bytes())?;
+        let words = words_of(alloc, &["run", "f.c"])?;
+        let mut input = MemSource::new(alloc, b"ab", takes)?;
+        let mut output = MemSink::new(alloc, 100, puts)?;
+        let mut notes = MemSink::new(alloc, 100, &[])?;
+        let Ended { status, .. } = baggy_run(
+            alloc,
+            &words,
+            &mut shelf,
+            &mut input,
+            &mut output,
+            &mut notes,
+        );
+        assert_eq!(rt; status, *ended, "{noted}");
+        assert_eq!(rt; output.bytes() == *written, true, "{noted}");
+        assert_eq!(rt; notes.bytes() == noted.as_bytes(), true, "{noted}");
+    }
+    Ok(())
+}
+
+// All bytes come through as they are.
+#[test]
+fn all_bytes_are_copied(rt: HostRuntime) -> Result<(), Fail> {
+    let mut bytes = Vec::new(rt.alloc());
+    for byte in 0..=255u8 {
+        bytes.push(byte)?;
+    }
+    let got = status_of_run(rt.alloc(), ECHO, &bytes, &bytes)?;
+    assert_eq!(rt; got, Some(0));
+    Ok(())
 }
 
 // A text, its input, its output and its status.
@@ -537,7 +599,7 @@ fn compiles_and_runs(rt: HostRuntime) -> Result<(), Fail> {
     shelf.add("f.c", b"int main(void) { return 1 - 300; }")?;
     for (words, ended, noted) in &CHAIN {
         let got = status_on(alloc, &mut shelf, words, 200, &[], noted)?;
-        assert_eq!(rt; got, Some(*ended), "{}", words.len());
+        assert_eq!(rt; got, Some(*ended), "{noted} of {} words", words.len());
     }
     Ok(())
 }

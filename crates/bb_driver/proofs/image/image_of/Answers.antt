@@ -1,13 +1,22 @@
-use Rattle.std.proofs.Common.{◌∙◌, ◌≤◌, [], ap, length, refl, sym, arith}
+use Rattle.flat_verify.specs.Views.{block_of}
+use Rattle.flat_verify.specs.Discipline.{IsDisciplined}
+use Rattle.bounds_instr.specs.Code.{global_blocks}
+use Rattle.std.proofs.Common.{◌∙◌, ◌≤◌, [], ap, length, refl, sym, arith, ◌≡◌, subst}
 use Rattle.std.proofs.lemmas.List.{length-map}
-use Rattle.std.specs.Prelude.{replicate}
+use Rattle.std.specs.Prelude.{replicate, map}
 use Rattle.mid_code.specs.Views.{program_of, function_of}
 use Rattle.flat_code.specs.CodeViews.{code_of}
 use Rattle.flat_code.specs.Weight.{weight}
 use Rattle.rv_image.specs.declared.image.Image.{Image}
 use Rattle.rv_select.specs.Selection.{selected}
-use Rattle.bb_driver.proofs.Images.{IsPlain, made}
+use Rattle.bb_driver.proofs.Images.{IsPlain, made, refused}
 use Rattle.bb_driver.proofs.image.image_of.Goals as goal
+
+pub unreachable-requires-in-Err-Unchecked : goal.unreachable-requires-in-Err-Unchecked
+unreachable-requires-in-Err-Unchecked c =
+    let blocks : global_blocks 4 (program_of c.args.mid.now) ≡ map block_of c.new.result = c.requires.plain ∙ sym (ap (map block_of) c.new.ensures) in
+    let disciplined = subst (λ bs. IsDisciplined 4 bs (code_of c.in-Ok.flat)) blocks c.in-Ok.ensures.1.disciplined in
+    refused c.in-Err-Unchecked.field-0 c.in-Err-Unchecked.field-0-0 c.in-Err-Unchecked.field-0-1 c.in-Err-Unchecked.field-0-is (c.in-Err-Unchecked.ensures.accepts disciplined)
 
 pub returns : goal.returns
 returns c =
@@ -27,4 +36,6 @@ returns c =
     rw (verified.exponent, verified.code) (omega (arith, a, b))
     in
     let same = c.in_ok-labelled.ensures.parts ∙ ap (λ f. selected c.in-Ok-verify.verified.exponent (code_of f)) verified.code ∙ ap (λ g. selected g (code_of c.in-Ok.flat)) verified.exponent in
-    made p (code_of c.in-Ok.flat) c.in_ok-labelled.labelled.parts image plain c.requires.few c.in-Ok.ensures.1 (c.in_ok-labelled.ensures.resolvable light) same c.in_ok-text.ensures
+    let are = c.in_ok-labelled.ensures.resolvable light in
+    let shape = c.texts_have_shape.ensures c.in_ok-labelled.labelled.parts c.in_ok-text.text.words are c.in_ok-labelled.ensures.shape c.in_ok-text.ensures in
+    made p (code_of c.in-Ok.flat) c.in_ok-labelled.labelled.parts image plain c.requires.few c.in-Ok.ensures.1 are same c.in_ok-text.ensures shape

@@ -1,4 +1,5 @@
-use Rattle.std.proofs.Common.{sym, subst}
+use Rattle.bounds_instr.specs.Code.{global_blocks}
+use Rattle.std.proofs.Common.{◌≡◌, true, sym, subst, []}
 use Rattle.std.proofs.lemmas.Result.{err_from_is_err_and}
 use Rattle.c_typed.specs.TypedViews.{program_of}
 use Rattle.mid_code.specs.Formed.{Formed}
@@ -7,7 +8,7 @@ use Rattle.bounds_instr.specs.Built as instr
 use Rattle.bb_driver.specs.Compiles.{IsMade}
 use Rattle.bb_driver.proofs.Made.{MadeLaws, right}
 use Rattle.bb_driver.proofs.Reading.{coded, lower_compiles}
-use Rattle.bb_driver.proofs.compile.compiled.Goals as goal
+use Rattle.bb_driver.proofs.compile.image_or_refusal.Goals as goal
 
 pub returns-in_err-mid : goal.returns-in_err-mid
 returns-in_err-mid c =
@@ -18,7 +19,13 @@ pub image_of-requires-clause-built : goal.image_of-requires-clause-built
 image_of-requires-clause-built c =
     let p = program_of c.in_ok-program.program in
     let code = c.in_ok-mid.ensures.3 in
-    subst instr.IsBuilt (sym code.is) (c.code_is_built.ensures p c.in_ok-mid.ensures.2).1
+    subst (λ q. instr.is_built q ≡ true) (sym code.is) (c.code_is_built.ensures p c.in_ok-mid.ensures.2).0
+
+pub image_of-requires-clause-plain : goal.image_of-requires-clause-plain
+image_of-requires-clause-plain c =
+    let p = program_of c.in_ok-program.program in
+    let code = c.in_ok-mid.ensures.3 in
+    subst (λ q. global_blocks 4 q ≡ []) (sym code.is) (c.no_frames.ensures 4 p c.in_ok-mid.ensures.2).globals
 
 pub returns : goal.returns
 returns c =
@@ -26,10 +33,14 @@ returns c =
     let read = c.in_ok-program.ensures in
     let code = c.in_ok-mid.ensures.3 in
     let laws : MadeLaws = record { right = c.layers_make_right.ensures; runs = c.selection_runs.ensures; fits = c.code_fits.ensures; main = c.main_fits.ensures; frameless = c.no_frames.ensures } in
-    let image = c.in_ok-image_of.field-0 in
+    let image = c.in_ok-image.image in
     record {
-      program = p;
-      accepted = coded c.args.text.now p c.in_ok-mid.mid read.0 c.in_ok-mid.ensures;
-      built = c.in_ok-mid.ensures.2;
-      right = right laws p image read.1 c.in_ok-mid.ensures.2 (subst Formed code.is code.formed) (subst (λ q. IsMade q image) code.is c.in_ok-image_of.ensures) (subst (Keeps p) code.is code.keeps);
+      image = record {
+        program = p;
+        accepted = coded c.args.text.now p c.in_ok-mid.mid read.0 c.in_ok-mid.ensures;
+        built = c.in_ok-mid.ensures.2;
+        right = right laws p image read.1 c.in_ok-mid.ensures.2 (subst Formed code.is code.formed) (subst (λ q. IsMade q image) code.is c.in_ok-image.ensures) (subst (Keeps p) code.is code.keeps);
+        shape = c.in_ok-image.ensures.shape;
+      };
+      code = code;
     }
