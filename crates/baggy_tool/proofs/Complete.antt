@@ -15,7 +15,7 @@ use Rattle.baggy_tool.specs.declared.ending.Ending.{Ending}
 use Rattle.baggy_tool.specs.declared.ending.Ending.TheVariants as ending
 use Rattle.baggy_tool.specs.declared.ending.Refusal.{Refusal}
 use Rattle.baggy_tool.specs.declared.ending.Refusal.TheVariants as refusal
-use Rattle.baggy_tool.specs.Accepted.{Refuses}
+use Rattle.baggy_tool.specs.Refusals.{Refuses}
 use Rattle.baggy_tool.specs.Calls.{Streams, Files, Noting, AnswersRun, AnswersCompile, AnswersCheck, AnswersFile, Answers, AnswersWords, IsKept, Notes}
 use Rattle.baggy_tool.specs.Files.{most_source, IsFile, IsAbsent}
 use Rattle.baggy_tool.specs.Laws.{Call, IsRun, IsWritten, AcceptedIsRun}
