@@ -53,6 +53,48 @@ const EXPRESSIONS: [(&str, &str); 23] = [
     ("s = (1, s)", "23"),
 ];
 
+// Files that break two rules at one place, and the line of the one that comes first.
+const ORDERS: [(&str, &str); 8] = [
+    ("int x; void x;", "baggy: refused Twice x at line 1\n"),
+    (
+        "int f; int f(int a, int b, int c, int d, int e, int g, int h, int i, int j);",
+        "baggy: refused Twice f at line 1\n",
+    ),
+    (
+        "int f(int a, int b, int c, int d, int e, int g, int h, int i, int j)[2];",
+        "baggy: refused TooManyParams at line 1\n",
+    ),
+    (
+        "void a[1048577];",
+        "baggy: refused BadType rule 1 at line 1\n",
+    ),
+    (
+        "struct s f(void) = 1;",
+        "baggy: refused BadType rule 2 at line 1\n",
+    ),
+    (
+        "int main(void) { return y + x; }",
+        "baggy: refused Unknown y at line 1\n",
+    ),
+    (
+        "int g(void); int main(void) { return g() + x; }",
+        "baggy: refused Unknown x at line 1\n",
+    ),
+    (
+        "int g(void);\nint f(void) { return g(); }",
+        "baggy: refused Unknown g at line 1\n",
+    ),
+];
+
+#[test]
+fn orders_are_kept(rt: HostRuntime) -> Result<(), Fail> {
+    for (text, noted) in &ORDERS {
+        let got = status(rt.alloc(), &["check", "f.c"], text.as_bytes(), noted)?;
+        assert_eq!(rt; got, Some(124), "{text}");
+    }
+    Ok(())
+}
+
 // Whether the text is refused by the rule.
 fn is_refused(alloc: Global, text: &str, rule: &str) -> Result<bool, AllocError> {
     let mut note = String::from_str(alloc, "baggy: refused BadType rule ")?;
