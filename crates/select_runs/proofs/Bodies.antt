@@ -7,6 +7,7 @@ use Rattle.flat_code.specs.Code.{FSteps, FFunction}
 use Rattle.flat_code.specs.World.{arguments, FWorld, FPoint, point, Run, Way}
 use Rattle.flat_code.specs.Accounts as accounts
 use Rattle.flat_code.specs.Run.{Calls, act_all, returned}
+use Rattle.flat_verify.specs.Comes.{InSteps}
 use Rattle.flat_verify.specs.Items.{all_steps, items_of}
 use Rattle.rv_asm.specs.declared.parts.Part.TheVariants.{Plain, Label}
 use Rattle.rv_asm.specs.Runs.{IsAt, PartsAt}
@@ -18,6 +19,7 @@ use Rattle.rv_select.specs.Selection.{frame_parts, items_parts, items_labels, re
 use Rattle.rv_select.specs.Steps.{plains}
 use Rattle.size_table.specs.Memory.{word_at}
 use Rattle.select_runs.specs.Fits.{FitItems, FitsFunction, params_of}
+use Rattle.select_runs.specs.InReach.{in_reach}
 use Rattle.select_runs.specs.Scene.{Scene, IsScene, after, Frame, edge, HasRoom, Agrees, IsKept, At}
 use Rattle.select_runs.proofs.Agree.{Laws, itself}
 use Rattle.select_runs.proofs.Reach.{Comes, ends_from}
@@ -39,7 +41,7 @@ none_given [] v le = refl
 none_given (x ∷ xs) zero le = absurd (omega (arith, le))
 none_given (x ∷ xs) (suc v) le = none_given xs v (omega (arith, le))
 
-module _ (laws : Laws) (s : Scene) (scene : IsScene s) (functions : List FFunction) (m q : ℕ) (deeper : Calls) (less : q ≤ m) (runs : CallsRun s functions q deeper)
+module _ (laws : Laws) (s : Scene) (scene : IsScene s) (functions : List FFunction) (m q : ℕ) (deeper : Calls) (inside : (function : ℕ) → (args : List ℕ) → FPoint → Type 0) (less : q ≤ m) (runs : CallsRun s functions q deeper inside)
     (values_fit : (number : ℕ) (fn : FFunction) → slice_get functions number ≡ Some fn → fn.values ≤ 255) (items_are : (steps : FSteps) → all_steps 4 (items_of 4 steps) ≡ steps) where
   abbrev params : ℕ → Option ℕ
   params n = params_of (slice_get functions n)
@@ -110,9 +112,10 @@ module _ (laws : Laws) (s : Scene) (scene : IsScene s) (functions : List FFuncti
       → (base : ℕ) → IsAt s.text a (after s j) → register_of (core j) 2 ≡ edge f → register_of (core j) 1 ≡ f.back
       → ((i : ℕ) → i < length args → register_of (core j) (18 + i) ≡ slice_index_or args i 0)
       → (let w1 = record w0 { depth = w0.depth + 1; stack = base } in
-      Agrees s (running laws s scene f number w0.stack) w1 (after s j) → IsKept s w1.told → k + 1 ≤ j → j + 32 + 2 * fn.values ≤ w0.time → j + 32 + 2 * fn.values + t ≤ k + w0.time
+      InSteps 4 deeper m fn.frame inside (in_reach 0) fn.body 0 (point (arguments args) w1)
+      → Agrees s (running laws s scene f number w0.stack) w1 (after s j) → IsKept s w1.told → k + 1 ≤ j → j + 32 + 2 * fn.values ≤ w0.time → j + 32 + 2 * fn.values + t ≤ k + w0.time
       → CallComes s f places u.words (suc q) k t (back_of u w0 (act_all 4 deeper m fn.frame fn.body (point (arguments args) w1))))
-  entered_runs f number fn places args u w0 first a a3 a4 b j k t fits callee given_all deep few_calls small layout labels pushes body ends base at two one given agrees kept some soon near =
+  entered_runs f number fn places args u w0 first a a3 a4 b j k t fits callee given_all deep few_calls small layout labels pushes body ends base at two one given reach agrees kept some soon near =
       let g = running laws s scene f number w0.stack in
       let w1 = record w0 { depth = w0.depth + 1; stack = base } in
       let values = callee.values in
@@ -138,9 +141,10 @@ module _ (laws : Laws) (s : Scene) (scene : IsScene s) (functions : List FFuncti
         soon = omega (arith, taken, soon, values);
         kept = kept;
       } in
-      let follow = calls_follow laws s scene g room functions 4 m fn.frame q deeper values_fit runs in
+      let follow = calls_follow laws s scene g room functions 4 m fn.frame q deeper inside values_fit runs in
       let fit_items : FitItems f.values params 0 (items_of 4 fn.body) = subst (λ v. FitItems v params 0 (items_of 4 fn.body)) (sym values) fits.items in
-      let ran = items_run laws s scene g room 4 m fn.frame q deeper params less follow (items_of 4 fn.body) (record { exits = []; back = first }) (first + 2) a3 a4 None u1 k2 fit_items (omega (arith, labels)) body here in
+      let ran = items_run laws s scene g room 4 m fn.frame q deeper inside params less follow (items_of 4 fn.body) (record { exits = []; back = first }) (first + 2) a3 a4 0 None u1 k2 fit_items
+      (subst (λ b. InSteps 4 deeper m fn.frame inside (in_reach 0) b 0 u1) (sym (items_are fn.body)) reach) (omega (arith, labels)) body here in
       let came = subst (λ b. Comes s g (record { exits = []; back = first }) a4 None q k2 w0.time (act_all 4 deeper m fn.frame b u1)) (items_are fn.body) ran in
       returns_so f number fn places u w0 first a4 b k2 k t w0.time place_f room fits callee deep small layout (omega (arith, labels))
       (subst (λ v. PartsAt s.text s.all s.labels a4 (Plain (Addi 9 0 0) ∷ Label first ∷ plains (return_code number fn.line v)) b) (sym values) ends)

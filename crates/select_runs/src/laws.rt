@@ -1,6 +1,6 @@
 //! The laws of selected code that runs.
 ghost use Rattle.select_runs.specs.Frame.{StraightRuns};
-ghost use Rattle.select_runs.specs.Laws.{NumbersLand, SelectionRuns};
+ghost use Rattle.select_runs.specs.Laws.{ProgramsLand, SelectionRuns};
 
 /// Straight code that stands in a text is done in as many steps as it has instructions. It tells accesses to the control
 /// frame alone, and changes nothing but registers and that frame.
@@ -12,10 +12,10 @@ pub fn straight_runs()
     rv_machine::laws::core_stays();
 }
 
-/// A machine whose text is the selected code of a program of numbers lands for every bound on the turns and nested calls of
-/// flat code.
-pub fn numbers_land()
-    ensures { NumbersLand }
+/// A machine whose text is the selected code of a program that fits lands for each bound on the turns and nested calls of
+/// flat code for which each step that the run comes to is in reach.
+pub fn programs_land()
+    ensures { ProgramsLand }
 {
     straight_runs();
     rv_machine::laws::steps_add();
@@ -31,11 +31,11 @@ pub fn numbers_land()
     flat_verify::laws::items_are_steps();
 }
 
-/// An image of the selected code of a program of numbers runs as its flat code does.
+/// An image of the selected code of a program that fits runs as its flat code does, if each step that it comes to is in reach.
 pub fn selection_runs()
     ensures { SelectionRuns }
 {
-    numbers_land();
+    programs_land();
     rv_machine::laws::runs_are_formed();
     rv_machine::laws::text_stands();
     rv_machine::laws::pc_is_aligned();

@@ -8,6 +8,6 @@ returns c = selection_runs (record {
   aligned = c.pc_is_aligned.ensures;
   memory = c.memory_starts.ensures;
   once = c.labels_stand_once.ensures;
-  lands = c.numbers_land.ensures;
+  lands = c.programs_land.ensures;
   runs = c.landings_run.ensures;
 })

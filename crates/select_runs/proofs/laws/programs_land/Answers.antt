@@ -1,6 +1,6 @@
 use Rattle.select_runs.proofs.Agree.{Laws}
 use Rattle.select_runs.proofs.Whole as whole
-use Rattle.select_runs.proofs.laws.numbers_land.Goals as goal
+use Rattle.select_runs.proofs.laws.programs_land.Goals as goal
 
 pub returns : goal.returns
 returns c =
@@ -17,4 +17,4 @@ returns c =
       shared_appends = c.shared_appends.ensures;
       tells_append = c.tells_append.ensures;
     } in
-    whole.numbers_land laws (λ steps. c.items_are_steps.ensures 4 steps)
+    whole.programs_land laws (λ steps. c.items_are_steps.ensures 4 steps)

@@ -1,0 +1,28 @@
+-- Which steps a run of flat code may come to, so that a machine follows it.
+use Rattle.std.specs.Prelude.{◌≡◌, ◌≢◌, ℕ, ◌≤◌, List, Some, None}
+use Rattle.bb_words.specs.Steps.{size_of_width}
+use Rattle.size_table.specs.declared.memory_map.TheConstants.{GLOBALS_START}
+use Rattle.size_table.specs.Blocks.{Block}
+use Rattle.flat_code.specs.Code.{FStep, FCode}
+use Rattle.flat_code.specs.World.{FPoint, Ending}
+use Rattle.flat_code.specs.Run.{refusal}
+use Rattle.flat_verify.specs.Comes.{Claim, InRun}
+
+-- An access is neither past the memory's end nor in the text; and where it is made, it is to the globals or above: below
+-- them flat code has neither size table nor control stack.
+pub record IsReached (at size : ℕ) : Type 0 where
+  pub mapped : refusal at size ≢ Some Ending.Cut
+  pub high : refusal at size ≡ None → GLOBALS_START ≤ at
+
+abbrev pub IsInReach : FStep → FPoint → Type 0
+IsInReach (FStep.Load to at width) u = IsReached (u.words at) (size_of_width width)
+IsInReach (FStep.Store at from width) u = IsReached (u.words at) (size_of_width width)
+IsInReach s u = Unit {0}
+
+-- it is claimed of each step of each function
+abbrev pub in_reach : (function : ℕ) → Claim
+in_reach function place s u = IsInReach s u
+
+-- each step that a run comes to is in reach
+abbrev pub RunsInReach : FCode → (globals : List Block) → (frames : List (List ℕ)) → (input : List ℕ) → (m : ℕ) → Type 0
+RunsInReach code globals frames input m = InRun 4 code globals frames input m in_reach
