@@ -36,18 +36,12 @@ use Rattle.select_runs.proofs.Straight.{step_acts}
 use Rattle.select_runs.proofs.Agree.{Laws}
 use Rattle.select_runs.proofs.Reach.{Finishes, control_of}
 use Rattle.select_runs.proofs.Moves.{apart, cell_is, one_step}
-use Rattle.select_runs.proofs.Pieces.{is_cell}
+use Rattle.select_runs.proofs.Pieces.{is_cell, plains_split}
 use Rattle.select_runs.proofs.Raw.{core_at, runs_straight, shifts}
 use Rattle.select_runs.proofs.Pushes.{HasPlace}
 use Rattle.select_runs.proofs.Calling.{returned_to}
 use Rattle.select_runs.proofs.Entering.{after_leave, leaves_so, has_left, sets, reframed, agrees_reframed, last_of, front_of}
 use Rattle.select_runs.proofs.Asking.{asks}
-
--- where the instructions of one list end and those of the other begin
-pub plains_split : (s : Scene) (x y : List Instr) (a b : ℕ) → PartsAt s.text s.all s.labels a (plains (x ++ y)) b
-    → (m : ℕ) × PartsAt s.text s.all s.labels a (plains x) m × PartsAt s.text s.all s.labels m (plains y) b
-plains_split s [] y a b h = (a, refl, h)
-plains_split s (i ∷ x) y a b h = let rest = plains_split s x y h.0 b h.2 in (rest.0, (h.0, h.1, rest.1), rest.2)
 
 -- a function stands at its label
 pub record FunctionAt (s : Scene) (scene : IsScene s) (number : ℕ) (fn : FFunction) : Type 0 where

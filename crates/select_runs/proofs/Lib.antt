@@ -6,6 +6,8 @@ pub mod Pieces
 pub mod Constructs
 pub mod Steps
 pub mod Asking
+pub mod Accesses
+pub mod Loading
 pub mod Items
 pub mod Raw
 pub mod Pushes

@@ -10,7 +10,7 @@ use Rattle.rv_asm.specs.Runs.{PartsAt}
 use Rattle.rv_code.specs.declared.instr.Instr.{Instr}
 use Rattle.rv_code.specs.declared.instr.Instr.TheVariants.{Lui, Addi}
 use Rattle.rv_select.specs.Layout.{cell, load, store, constant, is_short}
-use Rattle.rv_select.specs.Steps.{fetch, operation, number_code, same_code, arith_code}
+use Rattle.rv_select.specs.Steps.{plains, fetch, operation, number_code, same_code, arith_code}
 use Rattle.rv_select.specs.Straight.{Held, changed, does_all, IsSet, IsCell, AreStraight}
 use Rattle.rv_select.specs.Follows.{Stands, Keeps}
 use Rattle.select_runs.specs.Scene.{Scene}
@@ -23,6 +23,12 @@ pub parts_split : (s : Scene) (xs ys : List Part) (a b : ℕ) → PartsAt s.text
     → (m : ℕ) × PartsAt s.text s.all s.labels a xs m × PartsAt s.text s.all s.labels m ys b
 parts_split s [] ys a b h = (a, refl, h)
 parts_split s (x ∷ xs) ys a b h = let rest = parts_split s xs ys h.0 b h.2 in (rest.0, (h.0, h.1, rest.1), rest.2)
+
+-- where the instructions of one list end and those of the other begin
+pub plains_split : (s : Scene) (x y : List Instr) (a b : ℕ) → PartsAt s.text s.all s.labels a (plains (x ++ y)) b
+    → (m : ℕ) × PartsAt s.text s.all s.labels a (plains x) m × PartsAt s.text s.all s.labels m (plains y) b
+plains_split s [] y a b h = (a, refl, h)
+plains_split s (i ∷ x) y a b h = let rest = plains_split s x y h.0 b h.2 in (rest.0, (h.0, h.1, rest.1), rest.2)
 
 -- ---- Registers and cells
 
