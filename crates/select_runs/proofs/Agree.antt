@@ -13,7 +13,7 @@ use Rattle.flat_code.specs.Told.{tells}
 use Rattle.flat_code.specs.World.{FWorld, spend}
 use Rattle.rv_machine.specs.State.{Core, register_of}
 use Rattle.rv_machine.specs.Environment.{World}
-use Rattle.rv_machine.specs.Laws.{StepsAdd, CoreStays}
+use Rattle.rv_machine.specs.Laws.{StepsAdd, CoreStays, OthersStay}
 use Rattle.rv_asm.specs.Runs.{gone}
 use Rattle.rv_select.specs.Follows.{StepsLead}
 use Rattle.flat_landing.specs.Laws.{SharedAppends, KeptMore}
@@ -26,6 +26,7 @@ pub record Laws : Type 0 where
   pub straight : StraightRuns
   pub steps_add : StepsAdd
   pub core_stays : CoreStays
+  pub others : OthersStay
   pub leads : StepsLead
   pub kept_more : KeptMore
   pub events_append : EventsAppend

@@ -24,16 +24,12 @@ use Rattle.select_runs.specs.Scene.{Scene, IsScene, after, Frame, edge, HasRoom,
 use Rattle.select_runs.proofs.Agree.{Laws, itself}
 use Rattle.select_runs.proofs.Reach.{Comes, ends_from}
 use Rattle.select_runs.proofs.Moves.{cell_is, row}
-use Rattle.select_runs.proofs.Pieces.{is_set}
+use Rattle.select_runs.proofs.Pieces.{is_set, plains_join}
 use Rattle.select_runs.proofs.Items.{items_run}
 use Rattle.select_runs.proofs.Raw.{core_at}
 use Rattle.select_runs.proofs.Pushes.{HasPlace, frame_push}
 use Rattle.select_runs.proofs.Calling.{CallComes, IsCallee, CallsRun, calls_follow}
 use Rattle.select_runs.proofs.Functions.{running, leaves_call}
-
-pub plains_join : (s : Scene) (x y : List Instr) (a m b : ℕ) → PartsAt s.text s.all s.labels a (plains x) m → PartsAt s.text s.all s.labels m (plains y) b → PartsAt s.text s.all s.labels a (plains (x ++ y)) b
-plains_join s [] y a m b h rest = subst (λ p. PartsAt s.text s.all s.labels p (plains y) b) h rest
-plains_join s (i ∷ x) y a m b h rest = (h.0, h.1, plains_join s x y h.0 m b h.2 rest)
 
 -- past the arguments all values are 0
 none_given : (args : List ℕ) (v : ℕ) → length args ≤ v → slice_index_or args v 0 ≡ 0

@@ -31,12 +31,12 @@ use Rattle.select_runs.specs.InReach.{in_reach}
 use Rattle.select_runs.specs.Scene.{Scene, IsScene, after, Frame, edge, Agrees}
 use Rattle.select_runs.proofs.Agree.{Laws, spent, agrees_later}
 use Rattle.select_runs.proofs.Moves.{apart}
-use Rattle.select_runs.proofs.Pieces.{parts_split, plains_split}
+use Rattle.select_runs.proofs.Pieces.{parts_split, plains_split, plains_join}
 use Rattle.select_runs.proofs.Raw.{core_at}
 use Rattle.select_runs.proofs.Calling.{IsCalled, CallComes, IsCallee, HasTime, CallsRun}
 use Rattle.select_runs.proofs.Entering.{after_enter, enters_so, too_deep, no_room, has_entered, Reframed, reframed, agrees_reframed}
 use Rattle.select_runs.proofs.Functions.{FunctionAt, Ready, prepares, refuses, running}
-use Rattle.select_runs.proofs.Bodies.{plains_join, entered_runs}
+use Rattle.select_runs.proofs.Bodies.{entered_runs}
 
 module _ (laws : Laws) (s : Scene) (scene : IsScene s) (functions : List FFunction) (m q : ℕ) (deeper : Calls) (inside : (function : ℕ) → (args : List ℕ) → FPoint → Type 0) (less : q ≤ m) (runs : CallsRun s functions q deeper inside)
     (values_fit : (number : ℕ) (fn : FFunction) → slice_get functions number ≡ Some fn → fn.values ≤ 255) (items_are : (steps : FSteps) → all_steps 4 (items_of 4 steps) ≡ steps) where

@@ -23,6 +23,7 @@ use Rattle.select_runs.proofs.Pieces.{parts_split}
 use Rattle.select_runs.proofs.Constructs.{within, label_here, comes_at, turns_come, choice_comes}
 use Rattle.select_runs.proofs.Steps.{number_runs, same_runs, arith_runs, fetches, exit_runs as leave_runs, return_runs}
 use Rattle.select_runs.proofs.Loading.{load_runs}
+use Rattle.select_runs.proofs.Storing.{store_runs}
 use Rattle.select_runs.proofs.Asking.{exit_runs, get_runs, put_runs, report_runs, line_runs}
 
 more_inner : (m : ℕ) → m ≤ inner_turns m
@@ -58,6 +59,7 @@ module _ (laws : Laws) (s : Scene) (scene : IsScene s) (f : Frame) (room : HasRo
   step_runs (FStep.Call to function args) r a b p known u k fits reach inner h at = calls.follow to function args r a b known u k fits.0 fits.1 fits.2 fits.3 h inner at
   step_runs (FStep.Return from) r a b p known u k fits reach inner h at = return_runs laws s scene f room a b r.back from known u k fits h at
   step_runs (FStep.Load to at width) r a b p known u k fits reach inner h here = load_runs laws s scene f room to at width r q a b known u k fits.0 fits.1 reach h here
+  step_runs (FStep.Store at from width) r a b p known u k fits reach inner h here = store_runs laws s scene f room at from width r q a b known u k fits.0 fits.1 reach h here
   step_runs (FStep.LineMark line) r a b p known u k fits reach inner h at = line_runs laws s scene f room line a b known u k fits h at
   step_runs (FStep.Report kind line) r a b p known u k fits reach inner h at = report_runs laws s scene f room kind line a b known u k fits h at
   step_runs (FStep.Env to zero x y) r a b p known u k fits reach inner h at = absurd (let e : 1 ≤ 0 = fits.3 in omega (arith, e))

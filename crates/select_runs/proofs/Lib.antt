@@ -8,6 +8,8 @@ pub mod Steps
 pub mod Asking
 pub mod Accesses
 pub mod Loading
+pub mod Writes
+pub mod Storing
 pub mod Items
 pub mod Raw
 pub mod Pushes

@@ -20,6 +20,7 @@ pub fn programs_land()
     straight_runs();
     rv_machine::laws::steps_add();
     rv_machine::laws::core_stays();
+    rv_machine::laws::others_stay();
     rv_select::laws::steps_lead();
     flat_landing::laws::kept_more();
     flat_landing::laws::shared_appends();

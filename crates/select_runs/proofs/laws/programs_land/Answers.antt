@@ -8,6 +8,7 @@ returns c =
       straight = c.straight_runs.ensures;
       steps_add = c.steps_add.ensures;
       core_stays = c.core_stays.ensures;
+      others = c.others_stay.ensures;
       leads = c.steps_lead.ensures;
       kept_more = c.kept_more.ensures;
       events_append = c.events_append.ensures;
