@@ -139,7 +139,7 @@ module _ (laws : Laws) (s : Scene) (scene : IsScene s) (functions : List FFuncti
       } in
       let follow = calls_follow laws s scene g room functions 4 m fn.frame q deeper inside values_fit runs in
       let fit_items : FitItems f.values params 0 (items_of 4 fn.body) = subst (λ v. FitItems v params 0 (items_of 4 fn.body)) (sym values) fits.items in
-      let ran = items_run laws s scene g room 4 m fn.frame q deeper inside params less follow (items_of 4 fn.body) (record { exits = []; back = first }) (first + 2) a3 a4 0 None u1 k2 fit_items
+      let ran = items_run laws s scene g room 4 m fn.frame q deeper inside params less refl follow (items_of 4 fn.body) (record { exits = []; back = first }) (first + 2) a3 a4 0 None u1 k2 fit_items
       (subst (λ b. InSteps 4 deeper m fn.frame inside (in_reach 0) b 0 u1) (sym (items_are fn.body)) reach) (omega (arith, labels)) body here in
       let came = subst (λ b. Comes s g (record { exits = []; back = first }) a4 None q k2 w0.time (act_all 4 deeper m fn.frame b u1)) (items_are fn.body) ran in
       returns_so f number fn places u w0 first a4 b k2 k t w0.time place_f room fits callee deep small layout (omega (arith, labels))

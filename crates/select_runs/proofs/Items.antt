@@ -3,8 +3,8 @@ use Rattle.std.proofs.Common.{◌≡◌, ℕ, zero, suc, ◌+◌, ◌-◌, ◌<�
 use Rattle.std.specs.Prelude.{slice_index}
 use Rattle.bb_words.specs.Answers.{Answer}
 use Rattle.flat_code.specs.Code.{FStep, FSteps}
-use Rattle.flat_code.specs.World.{FPoint, point, spend, Way}
-use Rattle.flat_code.specs.Run.{Calls, act, act_all, turns, inner_turns}
+use Rattle.flat_code.specs.World.{with_word, FPoint, point, spend, Way}
+use Rattle.flat_code.specs.Run.{slot_word, Calls, act, act_all, turns, inner_turns}
 use Rattle.flat_code.specs.Time.{charge}
 use Rattle.flat_verify.specs.Comes.{InTurns, InStep, InSteps}
 use Rattle.flat_verify.specs.Items.{Item, Items, all_steps, step_places, steps_places}
@@ -12,7 +12,7 @@ use Rattle.rv_asm.specs.declared.parts.Part.{Part}
 use Rattle.rv_asm.specs.declared.parts.Part.TheVariants.{Label, Jump}
 use Rattle.rv_asm.specs.Runs.{PartsAt}
 use Rattle.rv_select.specs.Selection.{item_labels, items_labels, is_end, choice_parts, loop_parts, items_parts}
-use Rattle.rv_select.specs.Steps.{plains, fetch, held_after, step_parts, call_parts}
+use Rattle.rv_select.specs.Steps.{plains, fetch, held_after, slot_code, step_parts, call_parts}
 use Rattle.select_runs.specs.Fits.{AreValues, FitsStep, FitItems}
 use Rattle.select_runs.specs.InReach.{IsInReach, in_reach}
 use Rattle.select_runs.specs.Scene.{Scene, IsScene, Frame, HasRoom, At}
@@ -24,6 +24,7 @@ use Rattle.select_runs.proofs.Constructs.{within, label_here, comes_at, turns_co
 use Rattle.select_runs.proofs.Steps.{number_runs, same_runs, arith_runs, fetches, exit_runs as leave_runs, return_runs}
 use Rattle.select_runs.proofs.Loading.{load_runs}
 use Rattle.select_runs.proofs.Storing.{store_runs}
+use Rattle.select_runs.proofs.Slots.{slot_runs}
 use Rattle.select_runs.proofs.Asking.{exit_runs, get_runs, put_runs, report_runs, line_runs}
 
 more_inner : (m : ℕ) → m ≤ inner_turns m
@@ -37,7 +38,7 @@ pub record CallsFollow (s : Scene) (f : Frame) (g m frame q : ℕ) (call : Calls
       → inside function (map u.words args) (point u.words (spend 48 u.world)) → At s f a known u k
       → Comes s f r b None q k u.world.time (act g call m frame (FStep.Call to function args) (point u.words (spend 48 u.world)))
 
-module _ (laws : Laws) (s : Scene) (scene : IsScene s) (f : Frame) (room : HasRoom f) (g m frame q : ℕ) (call : Calls) (inside : (function : ℕ) → (args : List ℕ) → FPoint → Type 0) (params : ℕ → Option ℕ) (few : q ≤ m)
+module _ (laws : Laws) (s : Scene) (scene : IsScene s) (f : Frame) (room : HasRoom f) (g m frame q : ℕ) (call : Calls) (inside : (function : ℕ) → (args : List ℕ) → FPoint → Type 0) (params : ℕ → Option ℕ) (few : q ≤ m) (four : g ≡ 4)
     (calls : CallsFollow s f g m frame q call inside params) where
   -- each step that steps come to is in reach
   abbrev Reached : FSteps → (place : ℕ) → FPoint → Type 0
@@ -60,6 +61,9 @@ module _ (laws : Laws) (s : Scene) (scene : IsScene s) (f : Frame) (room : HasRo
   step_runs (FStep.Return from) r a b p known u k fits reach inner h at = return_runs laws s scene f room a b r.back from known u k fits h at
   step_runs (FStep.Load to at width) r a b p known u k fits reach inner h here = load_runs laws s scene f room to at width r q a b known u k fits.0 fits.1 reach h here
   step_runs (FStep.Store at from width) r a b p known u k fits reach inner h here = store_runs laws s scene f room at from width r q a b known u k fits.0 fits.1 reach h here
+  step_runs (FStep.Slot to from) r a b p known u k fits reach inner h at =
+      subst (λ e. PartsAt s.text s.all s.labels a (plains (slot_code e known to from)) b → Arrives s f b None (point (with_word u.words to (slot_word e (u.words from))) (spend 12 u.world)) k u.world.time) (sym four)
+      (λ parts. slot_runs laws s scene f room to from a b known u k fits.0 fits.1 parts at) h
   step_runs (FStep.LineMark line) r a b p known u k fits reach inner h at = line_runs laws s scene f room line a b known u k fits h at
   step_runs (FStep.Report kind line) r a b p known u k fits reach inner h at = report_runs laws s scene f room kind line a b known u k fits h at
   step_runs (FStep.Env to zero x y) r a b p known u k fits reach inner h at = absurd (let e : 1 ≤ 0 = fits.3 in omega (arith, e))

@@ -10,6 +10,7 @@ pub mod Accesses
 pub mod Loading
 pub mod Writes
 pub mod Storing
+pub mod Slots
 pub mod Items
 pub mod Raw
 pub mod Pushes
