@@ -11,6 +11,7 @@ pub mod Loading
 pub mod Writes
 pub mod Storing
 pub mod Slots
+pub mod Checking
 pub mod Items
 pub mod Raw
 pub mod Pushes
