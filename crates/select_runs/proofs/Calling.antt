@@ -204,6 +204,7 @@ module _ (laws : Laws) (s : Scene) (scene : IsScene s) (f : Frame) (room : HasRo
                 ((laws.each_appends s.globals s.globals (events_of v.told) (event ∷ [])).1 (a0.accesses, (tt, tt))));
             returns = ap (λ x. open_after [] (events_of x.told)) same ∙ ap (open_after []) events ∙ laws.open_appends [] (events_of v.told) (event ∷ [])
                 ∙ ap (λ o. open_on o (event ∷ [])) a0.returns ∙ ap (λ x. Some (x ∷ f.places)) four;
+            settled = a0.settled;
           };
           kept = at.kept;
         },
@@ -246,6 +247,7 @@ module _ (laws : Laws) (s : Scene) (scene : IsScene s) (f : Frame) (room : HasRo
           said = a0.said;
           accesses = a0.accesses;
           returns = a0.returns;
+          settled = a0.settled;
         };
         soon = soon;
         kept = an.kept;

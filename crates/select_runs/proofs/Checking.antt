@@ -44,6 +44,8 @@ module _ (laws : Laws) (s : Scene) (scene : IsScene s) (f : Frame) (room : HasRo
         same = ap (λ z. flat.Tell.Move z (register_of c 6) ∷ []) at.frame.stands.five ∙ ap (λ z. flat.Tell.Move (u.words v) z ∷ []) six;
         safe = λ live ever. (tt, tt);
         stay = λ places. refl;
+        live = λ blocks. refl;
+        high = (tt, tt);
       } in
       let agrees = agrees_more laws s f u.world now (gone (event ∷ []) d now) (Happens event ∷ []) (y ∷ []) u.world.input says
       (record { told = refl; memory = refl; eight = refl; table = refl; frames = refl }) at.agrees.input at.agrees in

@@ -171,6 +171,7 @@ module _ (laws : Laws) (s : Scene) (scene : IsScene s) where
     said = ap shared r.told ∙ a.said;
     accesses = subst (λ l. Each IsControlSafe s.globals s.globals (events_of l)) (sym r.told) a.accesses;
     returns = ap (λ l. open_after [] (events_of l)) r.told ∙ a.returns;
+    settled = record { live = a.settled.live; high = a.settled.high };
   }
 
 -- ---- Lists of calls

@@ -178,6 +178,7 @@ module _ (laws : Laws) (s : Scene) (scene : IsScene s) (f : Frame) where
               ((laws.each_appends s.globals s.globals (events_of v.told) (event ∷ [])).1 (a0.accesses, (tt, tt))));
           returns = ap (λ x. open_after [] (events_of x.told)) same ∙ ap (open_after []) events ∙ laws.open_appends [] (events_of v.told) (event ∷ [])
               ∙ ap (λ o. open_on o (event ∷ [])) (a0.returns ∙ ap Some opened) ∙ ap (λ t. if t then Some places else None) (eq-eqb f.back f.back refl);
+          settled = a0.settled;
         };
       }
     where

@@ -10,7 +10,7 @@ use Rattle.flat_code.specs.Run.{flat_run}
 use Rattle.rv_image.specs.declared.image.Image.{Image}
 use Rattle.rv_machine.specs.Environment.{World}
 use Rattle.rv_machine.specs.Formed.{IsByte}
-use Rattle.rv_machine.specs.Laws.{RunsAreFormed, TextStands, PcIsAligned, MemoryStarts}
+use Rattle.rv_machine.specs.Laws.{RunsAreFormed, TextStands, PcIsAligned, RunsHaveTable, MemoryStarts}
 use Rattle.rv_machine.specs.Live.{global_blocks}
 use Rattle.rv_machine.specs.Machine.{steps, machine_after}
 use Rattle.rv_machine.specs.Start.{start, start_memory}
@@ -28,6 +28,7 @@ pub record ImageLaws : Type 0 where
   pub formed : RunsAreFormed
   pub stands : TextStands
   pub aligned : PcIsAligned
+  pub tables : RunsHaveTable
   pub memory : MemoryStarts
   pub once : LabelsStandOnce
   pub lands : ProgramsLand
@@ -66,6 +67,7 @@ module _ (laws : ImageLaws) (code : FCode) (image : Image) (of : IsImageOf code 
     count = length code.functions + functions_labels 4 code.functions;
     once = λ l lt. laws.once 4 code l ∙ among_first (length code.functions + functions_labels 4 code.functions) l lt;
     aligned = λ n. laws.aligned image input n of.rules;
+    tables = λ n off. laws.tables image input n of.rules of.bytes bytes off;
   }
 
   starts_so : (at : ℕ) → GLOBALS_START ≤ at → at < MEMORY_END → slice_index (start_memory image) at ≡ flat.start_memory code.initial at
@@ -86,6 +88,7 @@ module _ (laws : ImageLaws) (code : FCode) (image : Image) (of : IsImageOf code 
     layouts = refl;
     entered = refl;
     left = refl;
+    live = refl;
     told = refl;
   }
 

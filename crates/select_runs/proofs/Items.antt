@@ -26,6 +26,7 @@ use Rattle.select_runs.proofs.Loading.{load_runs}
 use Rattle.select_runs.proofs.Storing.{store_runs}
 use Rattle.select_runs.proofs.Slots.{slot_runs}
 use Rattle.select_runs.proofs.Checking.{checked_runs}
+use Rattle.select_runs.proofs.Looking.{look_runs}
 use Rattle.select_runs.proofs.Asking.{exit_runs, get_runs, put_runs, report_runs, line_runs}
 
 more_inner : (m : ℕ) → m ≤ inner_turns m
@@ -66,6 +67,9 @@ module _ (laws : Laws) (s : Scene) (scene : IsScene s) (f : Frame) (room : HasRo
       subst (λ e. PartsAt s.text s.all s.labels a (plains (slot_code e known to from)) b → Arrives s f b None (point (with_word u.words to (slot_word e (u.words from))) (spend 12 u.world)) k u.world.time) (sym four)
       (λ parts. slot_runs laws s scene f room to from a b known u k fits.0 fits.1 parts at) h
   step_runs (FStep.Checked from to) r a b p known u k fits reach inner h at = checked_runs laws s scene f room from to a b known u k fits.0 fits.1 h at
+  step_runs (FStep.Look to slot) r a b p known u k fits reach inner h at =
+      subst (λ e. Comes s f r b (Some to) q k u.world.time (act e call m frame (FStep.Look to slot) (point u.words (spend 4 u.world)))) (sym four)
+      (look_runs laws s scene f room to slot r q a b known u k fits.0 fits.1 reach h at)
   step_runs (FStep.LineMark line) r a b p known u k fits reach inner h at = line_runs laws s scene f room line a b known u k fits h at
   step_runs (FStep.Report kind line) r a b p known u k fits reach inner h at = report_runs laws s scene f room kind line a b known u k fits h at
   step_runs (FStep.Env to zero x y) r a b p known u k fits reach inner h at = absurd (let e : 1 ≤ 0 = fits.3 in omega (arith, e))

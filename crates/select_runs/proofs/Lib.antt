@@ -12,6 +12,8 @@ pub mod Writes
 pub mod Storing
 pub mod Slots
 pub mod Checking
+pub mod Tables
+pub mod Looking
 pub mod Items
 pub mod Raw
 pub mod Pushes

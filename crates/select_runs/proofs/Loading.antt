@@ -55,11 +55,13 @@ module _ (laws : Laws) (s : Scene) (scene : IsScene s) (f : Frame) (room : HasRo
       (record { eight = refl; table = refl; behind = changed_other h.word (cell to) (h.register 5) (4 * f.values) (behind_apart laws s scene f room to lt) }) at).there
 
   -- an access by x5 is told as flat code tells it, and is none to the control stack or the size table
-  pub says_access : (pc at at' size : ℕ) (write : Bool) (time : ℕ) → at ≡ at' → SaysAs (Happens (Access pc at size write 5) ∷ []) ((record { time = time; what = flat.Tell.Access at' size write }) ∷ [])
-  says_access pc at at' size write time e = record {
+  pub says_access : (pc at at' size : ℕ) (write : Bool) (time : ℕ) → GLOBALS_START ≤ at' → at ≡ at' → SaysAs (Happens (Access pc at size write 5) ∷ []) ((record { time = time; what = flat.Tell.Access at' size write }) ∷ [])
+  says_access pc at at' size write time high e = record {
     same = ap (λ y. flat.Tell.Access y size write ∷ []) e;
     safe = λ live ever. ((λ two. absurd (apart 5 2 refl two), λ other. absurd (apart 5 31 refl other)), tt);
     stay = λ places. refl;
+    live = λ blocks. refl;
+    high = (high, tt);
   }
 
   -- an instruction that traps ends the run
@@ -104,7 +106,7 @@ module _ (laws : Laws) (s : Scene) (scene : IsScene s) (f : Frame) (room : HasRo
       step_acts now (Goes d) at.at.running (part.0.step c at.at.core ∙ goes_so) ∙ ap (λ (es : List Event). gone es d now) (part.0.events c at.at.core ∙ read_event width c) in
       let same : after s (k + 1) ≡ gone (event ∷ []) d now = sym (laws.steps_add k 1 s.start) ∙ one_step now ∙ comes in
       let other : (r : ℕ) → r ≢ 5 → register_of d r ≡ register_of c r = λ r ne. get_or-set_other c.registers 5 r value 0 ne in
-      let agrees = agrees_more laws s f u.world now (gone (event ∷ []) d now) (Happens event ∷ []) (x ∷ []) u.world.input (says_access c.pc place (u.words v) size false u.world.time address)
+      let agrees = agrees_more laws s f u.world now (gone (event ∷ []) d now) (Happens event ∷ []) (x ∷ []) u.world.input (says_access c.pc place (u.words v) size false u.world.time high address)
       (record { told = refl; memory = refl; eight = other 8 (apart 8 5 refl); table = other 26 (apart 26 5 refl); frames = refl }) at.agrees.input at.agrees in
       let kept : IsKept s w.told = record { by = laws.kept_more s.start u.world.told x (k + 1) at.kept.by soon (ap (λ y. shared y.told) same ∙ agrees.said) } in
       let within = made_within (u.words v) size made in

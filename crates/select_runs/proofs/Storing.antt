@@ -113,7 +113,7 @@ module _ (laws : Laws) (s : Scene) (scene : IsScene s) (f : Frame) (room : HasRo
       let comes : step now ≡ gone (event ∷ []) d now =
       step_acts now (Goes d) at.at.running (part.0.step c at.at.core ∙ goes_so) ∙ ap (λ (es : List Event). gone es d now) (part.0.events c at.at.core ∙ write_event width c) in
       let same : after s (k + 1) ≡ gone (event ∷ []) d now = sym (laws.steps_add k 1 s.start) ∙ one_step now ∙ comes in
-      let a0 = agrees_more laws s f u.world now (gone (event ∷ []) (next c) now) (Happens event ∷ []) (y ∷ []) u.world.input (says_access laws s scene f room c.pc (sum (register_of c 5) 0) place size true u.world.time address)
+      let a0 = agrees_more laws s f u.world now (gone (event ∷ []) (next c) now) (Happens event ∷ []) (y ∷ []) u.world.input (says_access laws s scene f room c.pc (sum (register_of c 5) 0) place size true u.world.time high address)
       (record { told = refl; memory = refl; eight = refl; table = refl; frames = refl }) at.agrees.input at.agrees in
       let w = written width v x u in
       let within = made_within place size made in
@@ -133,6 +133,7 @@ module _ (laws : Laws) (s : Scene) (scene : IsScene s) (f : Frame) (room : HasRo
         said = a0.said;
         accesses = a0.accesses;
         returns = a0.returns;
+        settled = record { live = a0.settled.live; high = a0.settled.high };
       } in
       let kept : IsKept s w.told = record { by = laws.kept_more s.start u.world.told y (k + 1) at.kept.by soon (ap (λ z. shared z.told) same ∙ agrees.said) } in
       record {

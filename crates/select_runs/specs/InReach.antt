@@ -1,5 +1,5 @@
 -- Which steps a run of flat code may come to, so that a machine follows it.
-use Rattle.std.specs.Prelude.{◌≡◌, ◌≢◌, ℕ, ◌≤◌, List, Some, None}
+use Rattle.std.specs.Prelude.{◌≡◌, ◌≢◌, ℕ, ◌^◌, ◌<◌, ◌≤◌, List, Some, None}
 use Rattle.bb_words.specs.Steps.{size_of_width}
 use Rattle.size_table.specs.declared.memory_map.TheConstants.{GLOBALS_START}
 use Rattle.size_table.specs.Blocks.{Block}
@@ -14,7 +14,9 @@ pub record IsReached (at size : ℕ) : Type 0 where
   pub mapped : refusal at size ≢ Some Ending.Cut
   pub high : refusal at size ≡ None → GLOBALS_START ≤ at
 
+-- A look is at one of the slots of memory, and an access is reached.
 abbrev pub IsInReach : FStep → FPoint → Type 0
+IsInReach (FStep.Look to slot) u = u.words slot < 2 ^ 21
 IsInReach (FStep.Load to at width) u = IsReached (u.words at) (size_of_width width)
 IsInReach (FStep.Store at from width) u = IsReached (u.words at) (size_of_width width)
 IsInReach s u = Unit {0}

@@ -29,6 +29,7 @@ pub fn programs_land()
     bb_watch::laws::each_appends();
     bb_watch::laws::open_appends();
     flat_code::laws::tells_append();
+    flat_code::laws::live_appends();
     flat_verify::laws::items_are_steps();
 }
 
@@ -40,6 +41,7 @@ pub fn selection_runs()
     rv_machine::laws::runs_are_formed();
     rv_machine::laws::text_stands();
     rv_machine::laws::pc_is_aligned();
+    rv_machine::laws::runs_have_table();
     rv_machine::laws::memory_starts();
     rv_select::laws::labels_stand_once();
     flat_landing::laws::landings_run();

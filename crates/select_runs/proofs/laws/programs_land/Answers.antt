@@ -17,5 +17,6 @@ returns c =
       open_appends = c.open_appends.ensures;
       shared_appends = c.shared_appends.ensures;
       tells_append = c.tells_append.ensures;
+      live_appends = c.live_appends.ensures;
     } in
     whole.programs_land laws (λ steps. c.items_are_steps.ensures 4 steps)
