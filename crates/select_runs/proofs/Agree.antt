@@ -7,7 +7,7 @@ use Rattle.bb_watch.specs.Told.{Happens, events_of}
 use Rattle.bb_watch.specs.Laws.{EventsAppend, EventsHappen, EachAppends, OpenAppends, open_on}
 use Rattle.bb_watch.specs.Safety.{Each, IsControlSafe, open_after}
 use Rattle.size_table.specs.Blocks.{Block}
-use Rattle.size_table.specs.declared.memory_map.TheConstants.{GLOBALS_START}
+use Rattle.size_table.specs.declared.memory_map.TheConstants.{GLOBALS_START, HEAP_START}
 use Rattle.flat_code.specs.Laws.{TellsAppend, LiveAppends}
 use Rattle.flat_code.specs.Safety.{live_of}
 use Rattle.flat_code.specs.Told.{tells}
@@ -98,6 +98,7 @@ agrees_later s f old new v l a = record {
   settled = record {
     live = l.live ∙ a.settled.live ∙ sym (ap (λ t. live_of s.globals (tells t)) l.told);
     high = subst (λ t. AreHigh (tells t)) (sym l.told) a.settled.high;
+    stack = subst (λ n. n ≤ HEAP_START) (sym l.stack) a.settled.stack;
   };
 }
 

@@ -88,6 +88,7 @@ module _ (laws : Laws) (s : Scene) where
         settled = record {
           live = a.settled.live ∙ sym (ap (live_of s.globals) (laws.tells_append w.told new) ∙ laws.live_appends s.globals (tells w.told) (tells new) ∙ says.live (live_of s.globals (tells w.told)));
           high = subst AreHigh (sym (laws.tells_append w.told new)) (high_append (tells w.told) (tells new) a.settled.high says.high);
+          stack = a.settled.stack;
         };
       }
 

@@ -17,9 +17,10 @@ use Rattle.rv_machine.specs.State.{Core, register_of}
 use Rattle.rv_select.specs.Layout.{cell}
 use Rattle.rv_select.specs.Selection.{frame_parts, items_parts, items_labels, return_code}
 use Rattle.rv_select.specs.Steps.{plains}
+use Rattle.size_table.specs.declared.memory_map.TheConstants.{HEAP_START}
 use Rattle.size_table.specs.Memory.{word_at}
 use Rattle.select_runs.specs.Fits.{FitItems, FitsFunction, params_of}
-use Rattle.select_runs.specs.InReach.{in_reach}
+use Rattle.select_runs.specs.InReach.{reached}
 use Rattle.select_runs.specs.Scene.{Scene, IsScene, after, Frame, edge, HasRoom, Agrees, IsKept, At}
 use Rattle.select_runs.proofs.Agree.{Laws, itself}
 use Rattle.select_runs.proofs.Reach.{Comes, ends_from}
@@ -50,7 +51,7 @@ module _ (laws : Laws) (s : Scene) (scene : IsScene s) (functions : List FFuncti
   back_of u w0 o = and_then (and_then (and_then o returned) (λ word t. Answer.Goes word (point u.words t.world))) (λ word t. Answer.Goes word (point t.words (accounts.leave [] w0 t.world)))
 
   returns_so : (f : Frame) (number : ℕ) (fn : FFunction) (places : List ℕ) (u : FPoint) (w0 : FWorld) (first a b k2 k t time : ℕ) → HasPlace f → HasRoom (running laws s scene f number w0.stack) → FitsFunction params number fn
-      → IsCallee f fn places → w0.depth ≡ length f.entered → w0.stack < 2 ^ 32 → slice_get s.frames number ≡ Some [] → first < scene.count
+      → IsCallee f fn places → w0.depth ≡ length f.entered → w0.stack ≤ HEAP_START → slice_get s.frames number ≡ Some [] → first < scene.count
       → PartsAt s.text s.all s.labels a (Plain (Addi 9 0 0) ∷ Label first ∷ plains (return_code number fn.line f.values)) b
       → k + 1 ≤ k2 → k2 + 10 ≤ time → k2 + 10 + t ≤ k + time → (o : Run Way)
       → Comes s (running laws s scene f number w0.stack) (record { exits = []; back = first }) a None q k2 time o → CallComes s f places u.words (suc q) k t (back_of u w0 o)
@@ -101,14 +102,14 @@ module _ (laws : Laws) (s : Scene) (scene : IsScene s) (functions : List FFuncti
 
   -- A frame was entered: its control frame is pushed, and the body is done.
   pub entered_runs : (f : Frame) (number : ℕ) (fn : FFunction) (places args : List ℕ) (u : FPoint) (w0 : FWorld) (first a a3 a4 b j k t : ℕ) → FitsFunction params number fn → IsCallee f fn places
-      → length args ≡ fn.params → w0.depth ≡ length f.entered → length f.entered < 4096 → w0.stack < 2 ^ 32 → slice_get s.frames number ≡ Some [] → first + (2 + items_labels (items_of 4 fn.body)) ≤ scene.count
+      → length args ≡ fn.params → w0.depth ≡ length f.entered → length f.entered < 4096 → w0.stack ≤ HEAP_START → slice_get s.frames number ≡ Some [] → first + (2 + items_labels (items_of 4 fn.body)) ≤ scene.count
       → PartsAt s.text s.all s.labels a (frame_parts (first + 1) fn.params fn.values) a3
       → PartsAt s.text s.all s.labels a3 (items_parts 4 first None [] (first + 2) (items_of 4 fn.body)) a4
       → PartsAt s.text s.all s.labels a4 (Plain (Addi 9 0 0) ∷ Label first ∷ plains (return_code number fn.line fn.values)) b
       → (base : ℕ) → IsAt s.text a (after s j) → register_of (core j) 2 ≡ edge f → register_of (core j) 1 ≡ f.back
       → ((i : ℕ) → i < length args → register_of (core j) (18 + i) ≡ slice_index_or args i 0)
       → (let w1 = record w0 { depth = w0.depth + 1; stack = base } in
-      InSteps 4 deeper m fn.frame inside (in_reach 0) fn.body 0 (point (arguments args) w1)
+      InSteps 4 deeper m fn.frame inside (reached fn.frame) fn.body 0 (point (arguments args) w1)
       → Agrees s (running laws s scene f number w0.stack) w1 (after s j) → IsKept s w1.told → k + 1 ≤ j → j + 32 + 2 * fn.values ≤ w0.time → j + 32 + 2 * fn.values + t ≤ k + w0.time
       → CallComes s f places u.words (suc q) k t (back_of u w0 (act_all 4 deeper m fn.frame fn.body (point (arguments args) w1))))
   entered_runs f number fn places args u w0 first a a3 a4 b j k t fits callee given_all deep few_calls small layout labels pushes body ends base at two one given reach agrees kept some soon near =
@@ -140,7 +141,7 @@ module _ (laws : Laws) (s : Scene) (scene : IsScene s) (functions : List FFuncti
       let follow = calls_follow laws s scene g room functions 4 m fn.frame q deeper inside values_fit runs in
       let fit_items : FitItems f.values params 0 (items_of 4 fn.body) = subst (λ v. FitItems v params 0 (items_of 4 fn.body)) (sym values) fits.items in
       let ran = items_run laws s scene g room 4 m fn.frame q deeper inside params less refl follow (items_of 4 fn.body) (record { exits = []; back = first }) (first + 2) a3 a4 0 None u1 k2 fit_items
-      (subst (λ b. InSteps 4 deeper m fn.frame inside (in_reach 0) b 0 u1) (sym (items_are fn.body)) reach) (omega (arith, labels)) body here in
+      (subst (λ b. InSteps 4 deeper m fn.frame inside (reached fn.frame) b 0 u1) (sym (items_are fn.body)) reach) (omega (arith, labels)) body here in
       let came = subst (λ b. Comes s g (record { exits = []; back = first }) a4 None q k2 w0.time (act_all 4 deeper m fn.frame b u1)) (items_are fn.body) ran in
       returns_so f number fn places u w0 first a4 b k2 k t w0.time place_f room fits callee deep small layout (omega (arith, labels))
       (subst (λ v. PartsAt s.text s.all s.labels a4 (Plain (Addi 9 0 0) ∷ Label first ∷ plains (return_code number fn.line v)) b) (sym values) ends)

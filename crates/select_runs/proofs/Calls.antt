@@ -54,8 +54,8 @@ module _ (laws : Laws) (s : Scene) (scene : IsScene s) (functions : List FFuncti
       reported some deep =
           subst (λ b. CallComes s f places u.words 1 k t (choose b (λ v. Answer.Ends (Ending.Reported report.Depth fn.line) v) (defined 4 s.frames m no_calls number fn args) u)) deep
           (subst (λ b. CallComes s f places u.words 1 k t (choose b (library 4 s.frames m fn args) (counted fn.line (defined 4 s.frames m no_calls number fn args)) u)) some
-          (function_runs laws s scene functions m 0 no_calls unmade (omega arith) (none_run s functions) values_fit items_are f number fn places args u k t (stand number fn is) (fit number fn is) given callee time
-          (subst (λ b. either b nothing (InDefined 4 s.frames m in_reach no_calls unmade number fn args (slice_get s.frames number)) u) (sym deep) tt) called))
+          (function_runs laws s scene functions m 0 no_calls unmade (omega arith) (none_run s functions) values_fit items_are f number fn places args u k t is (stand number fn is) (fit number fn is) given callee time
+          (subst (λ b. either b nothing (InDefined 4 s.frames m (in_reach functions) no_calls unmade number fn args (slice_get s.frames number)) u) (sym deep) tt) called))
 
       by_depth : (deep : Bool) → nat_le MOST_CALLS u.world.depth ≡ deep
           → CallComes s f places u.words 0 k t (choose deep (λ v. Answer.Ends (Ending.Reported report.Depth fn.line) v) (λ v. Answer.Ends Ending.Cut v) u)
@@ -64,14 +64,14 @@ module _ (laws : Laws) (s : Scene) (scene : IsScene s) (functions : List FFuncti
 
   -- what is claimed of a call of a function of the program
   in_function : (deeper : Calls) (inside : (function : ℕ) → (args : List ℕ) → FPoint → Type 0) (number : ℕ) (fn : FFunction) (args : List ℕ) (u : FPoint) → slice_get functions number ≡ Some fn
-      → InOne 4 s.frames m in_reach deeper inside (slice_get functions number) number args u
-      → either (nat_le MOST_CALLS u.world.depth) nothing (InDefined 4 s.frames m in_reach deeper inside number fn args (slice_get s.frames number)) u
+      → InOne 4 s.frames m (in_reach functions) deeper inside (slice_get functions number) number args u
+      → either (nat_le MOST_CALLS u.world.depth) nothing (InDefined 4 s.frames m (in_reach functions) deeper inside number fn args (slice_get s.frames number)) u
   in_function deeper inside number fn args u is reach =
-      subst (λ b. either b (InLibrary 4 s.frames m in_reach number fn args) (either (nat_le MOST_CALLS u.world.depth) nothing (InDefined 4 s.frames m in_reach deeper inside number fn args (slice_get s.frames number))) u)
-      (ne_eqb fn.line 0 (has_line number fn is)) (subst (λ o. InOne 4 s.frames m in_reach deeper inside o number args u) is reach)
+      subst (λ b. either b (InLibrary 4 s.frames m (in_reach functions) number fn args) (either (nat_le MOST_CALLS u.world.depth) nothing (InDefined 4 s.frames m (in_reach functions) deeper inside number fn args (slice_get s.frames number))) u)
+      (ne_eqb fn.line 0 (has_line number fn is)) (subst (λ o. InOne 4 s.frames m (in_reach functions) deeper inside o number args u) is reach)
 
   -- calls with at most n nested are followed, and where flat code is cut, for at least n instructions
-  pub calls_run : (n : ℕ) → n ≤ m → CallsRun s functions n (calls 4 s.frames m functions n) (InCalls 4 s.frames m in_reach functions n)
+  pub calls_run : (n : ℕ) → n ≤ m → CallsRun s functions n (calls 4 s.frames m functions n) (InCalls 4 s.frames m (in_reach functions) functions n)
   calls_run zero le = record {
     run = λ f number fn places args u k t is given callee time reach called.
         subst (λ o. CallComes s f places u.words 0 k t (call_none 4 s.frames m functions o number args u)) (sym is) (last_run f number fn places args u k t is given callee time called);
@@ -81,6 +81,6 @@ module _ (laws : Laws) (s : Scene) (scene : IsScene s) (functions : List FFuncti
       record {
         run = λ f number fn places args u k t is given callee time reach called.
             subst (λ o. CallComes s f places u.words (suc n) k t (call_one 4 s.frames m functions (calls 4 s.frames m functions n) o number args u)) (sym is)
-            (function_runs laws s scene functions m n (calls 4 s.frames m functions n) (InCalls 4 s.frames m in_reach functions n) (omega (arith, le)) less values_fit items_are f number fn places args u k t (stand number fn is) (fit number fn is) given callee time
-            (in_function (calls 4 s.frames m functions n) (InCalls 4 s.frames m in_reach functions n) number fn args u is reach) called);
+            (function_runs laws s scene functions m n (calls 4 s.frames m functions n) (InCalls 4 s.frames m (in_reach functions) functions n) (omega (arith, le)) less values_fit items_are f number fn places args u k t is (stand number fn is) (fit number fn is) given callee time
+            (in_function (calls 4 s.frames m functions n) (InCalls 4 s.frames m (in_reach functions) functions n) number fn args u is reach) called);
       }

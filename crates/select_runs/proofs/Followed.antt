@@ -5,12 +5,13 @@ use Rattle.std.proofs.lemmas.List.{append-nil}
 use Rattle.std.proofs.lemmas.Bool.{ne_eqb, le-leb, cases_lt}
 use Rattle.bb_words.specs.Answers.{Answer, and_then, either}
 use Rattle.bb_words.specs.declared.kinds.ReportKind.TheVariants as report
-use Rattle.size_table.specs.declared.memory_map.TheConstants.{STACK_START, MOST_CALLS}
+use Rattle.size_table.specs.declared.memory_map.TheConstants.{STACK_START, HEAP_START, MOST_CALLS}
 use Rattle.flat_code.specs.Code.{FSteps, FFunction}
 use Rattle.flat_code.specs.World.{arguments, FWorld, FPoint, point, spend, choose, Ending}
 use Rattle.flat_code.specs.Accounts as accounts
 use Rattle.flat_code.specs.Run.{Calls, act_all, body_with, framed_if, counted, library, defined, call_one}
 use Rattle.flat_code.specs.Time.{call_charge}
+use Rattle.flat_verify.specs.Discipline.{frame_in}
 use Rattle.flat_verify.specs.Comes.{InSteps, nothing, InDefined}
 use Rattle.flat_verify.specs.Items.{all_steps, items_of}
 use Rattle.rv_asm.specs.declared.parts.Part.TheVariants.{Plain, Label}
@@ -27,7 +28,7 @@ use Rattle.rv_select.specs.Selection.{frame_parts, items_parts, items_labels, en
 use Rattle.rv_select.specs.Steps.{plains}
 use Rattle.select_runs.specs.Frame.{IsFrameAt}
 use Rattle.select_runs.specs.Fits.{FitsFunction, params_of}
-use Rattle.select_runs.specs.InReach.{in_reach}
+use Rattle.select_runs.specs.InReach.{reached, in_reach}
 use Rattle.select_runs.specs.Scene.{Scene, IsScene, after, Frame, edge, Agrees}
 use Rattle.select_runs.proofs.Agree.{Laws, spent, agrees_later}
 use Rattle.select_runs.proofs.Moves.{apart}
@@ -43,11 +44,11 @@ module _ (laws : Laws) (s : Scene) (scene : IsScene s) (functions : List FFuncti
   abbrev core : ℕ → Core
   core k = core_at laws s scene k
 
-  pub function_runs : (f : Frame) (number : ℕ) (fn : FFunction) (places args : List ℕ) (u : FPoint) (k t : ℕ) → FunctionAt s scene number fn → FitsFunction (λ n. params_of (slice_get functions n)) number fn
+  pub function_runs : (f : Frame) (number : ℕ) (fn : FFunction) (places args : List ℕ) (u : FPoint) (k t : ℕ) → slice_get functions number ≡ Some fn → FunctionAt s scene number fn → FitsFunction (λ n. params_of (slice_get functions n)) number fn
       → length args ≡ fn.params → IsCallee f fn places → HasTime u.world k t
-      → either (nat_le MOST_CALLS u.world.depth) nothing (InDefined 4 s.frames m in_reach deeper inside number fn args (slice_get s.frames number)) u → IsCalled s f number args u.world k
+      → either (nat_le MOST_CALLS u.world.depth) nothing (InDefined 4 s.frames m (in_reach functions) deeper inside number fn args (slice_get s.frames number)) u → IsCalled s f number args u.world k
       → CallComes s f places u.words (suc q) k t (call_one 4 s.frames m functions deeper (Some fn) number args u)
-  function_runs f number fn places args u k t here fits given_all callee time reach called =
+  function_runs f number fn places args u k t own here fits given_all callee time reach called =
       let line = fn.line in
       let n = here.first in
       let p1 = Label number ∷ plains (enter_code number line) in
@@ -83,7 +84,7 @@ module _ (laws : Laws) (s : Scene) (scene : IsScene s) (functions : List FFuncti
           → PartsAt s.text s.all s.labels a3 (items_parts 4 first None [] (first + 2) (items_of 4 fn.body)) a4
           → PartsAt s.text s.all s.labels a4 (Plain (Addi 9 0 0) ∷ Label first ∷ plains (return_code number fn.line fn.values)) here.to
           → first + (2 + items_labels (items_of 4 fn.body)) ≤ scene.count → slice_get s.frames number ≡ Some []
-          → (deep : Bool) → nat_le MOST_CALLS u.world.depth ≡ deep → either deep nothing (InDefined 4 s.frames m in_reach deeper inside number fn args (slice_get s.frames number)) u
+          → (deep : Bool) → nat_le MOST_CALLS u.world.depth ≡ deep → either deep nothing (InDefined 4 s.frames m (in_reach functions) deeper inside number fn args (slice_get s.frames number)) u
           → CallComes s f places u.words (suc q) k t (choose deep (λ v. Answer.Ends (Ending.Reported report.Depth fn.line) v) (defined 4 s.frames m deeper number fn args) u)
       by_depth a a3 a4 p pe first ready ecall copy pushes body ends labels layout true deep reach =
           let j = k + ready.count in
@@ -99,7 +100,7 @@ module _ (laws : Laws) (s : Scene) (scene : IsScene s) (functions : List FFuncti
       by_depth a a3 a4 p pe first ready ecall copy pushes body ends labels layout false deep reach =
           let u0 = point u.words (spend (call_charge fn) u.world) in
           subst (λ o. CallComes s f places u.words (suc q) k t (framed_if 4 fn.line (act_all 4 deeper m fn.frame fn.body) args o u0)) (sym layout)
-          (by_room (nat_lt (accounts.stack_under 4 u.world.stack []) STACK_START) refl (subst (λ o. InDefined 4 s.frames m in_reach deeper inside number fn args o u) layout reach))
+          (by_room (nat_lt (accounts.stack_under 4 u.world.stack []) STACK_START) refl (subst (λ o. InDefined 4 s.frames m (in_reach functions) deeper inside number fn args o u) layout reach))
         where
           j : ℕ
           j = k + ready.count
@@ -129,7 +130,7 @@ module _ (laws : Laws) (s : Scene) (scene : IsScene s) (functions : List FFuncti
               ∙ called.given i lt
 
           by_room : (low : Bool) → nat_lt (accounts.stack_under 4 u.world.stack []) STACK_START ≡ low
-              → either low nothing (λ z. InSteps 4 deeper m fn.frame inside (in_reach 0) fn.body 0 (point (arguments args) (accounts.enter (accounts.stack_under 4 z.world.stack []) [] z.world))) (point u.words w0)
+              → either low nothing (λ z. InSteps 4 deeper m fn.frame inside (in_reach functions number) fn.body 0 (point (arguments args) (accounts.enter (accounts.stack_under 4 z.world.stack []) [] z.world))) (point u.words w0)
               → CallComes s f places u.words (suc q) k t (choose low (λ z. Answer.Ends (Ending.Reported report.Stack fn.line) z)
               (λ z. and_then (body_with (act_all 4 deeper m fn.frame fn.body) args (point z.words (accounts.enter (accounts.stack_under 4 z.world.stack []) [] z.world)))
               (λ word x. Answer.Goes word (point x.words (accounts.leave [] z.world x.world)))) (point u.words (spend (call_charge fn) u.world)))
@@ -149,7 +150,7 @@ module _ (laws : Laws) (s : Scene) (scene : IsScene s) (functions : List FFuncti
               let same_base : base ≡ flat_base = ap (λ x. stack_under x []) agrees.number in
               let x = entered_at base number [] frames memory in
               let so = enters_so v number x ready.seventeen ready.ten (ap (λ l. slice_get l number) agrees.layouts ∙ layout) (has_entered number frames memory none_deep stack) in
-              let eight : u.world.stack < 2 ^ 32 = subst (λ (n : ℕ). n < 2 ^ 32) agrees.stack ((scene.form j).words 8 0 (let z = (scene.form j).registers in omega (arith, z))) in
+              let eight : u.world.stack ≤ HEAP_START = agrees.settled.stack in
               let number_is = agrees.number in
               let r = reframed laws s scene p pe a base j x.frames (after_enter x v) ecall copy ready.at (omega (arith, eight, number_is)) so refl refl ready.at.running refl (append-nil v.told) in
               let call : Entered = record { frame = number; back = u.world.stack } in
@@ -158,7 +159,7 @@ module _ (laws : Laws) (s : Scene) (scene : IsScene s) (functions : List FFuncti
               ap (λ l. l ++ (record { frame = number; back = frames.stack }) ∷ []) agrees.entered ∙ ap (λ y. f.entered ++ (record { frame = number; back = y }) ∷ []) agrees.number in
               let depth = agrees.depth in
               let deeper_by : u.world.depth + 1 ≡ length entered = omega (arith, depth, length-append f.entered (call ∷ [])) in
-              let now = agrees_reframed laws s scene f entered w0 (u.world.depth + 1) base a j x.frames refl agrees.layouts more deeper_by r (agrees_later s f u.world w0 v (spent (call_charge fn) u.world) agrees) in
+              let now = agrees_reframed laws s scene f entered w0 (u.world.depth + 1) base a j x.frames refl agrees.layouts more deeper_by (omega (arith, eight, number_is)) r (agrees_later s f u.world w0 v (spent (call_charge fn) u.world) agrees) in
               let few_calls = few_by (cases_lt u.world.depth 4096) in
               let early = time.0 in
               let late = time.1 in
@@ -166,6 +167,7 @@ module _ (laws : Laws) (s : Scene) (scene : IsScene s) (functions : List FFuncti
               (omega (arith, few_calls, depth)) eight layout labels pushes body ends flat_base r.at
               (r.others 2 (apart 2 8 refl) (apart 2 10 refl) ∙ ready.others 2 (omega arith) (apart 2 10 refl) (apart 2 11 refl) (apart 2 17 refl) ∙ called.base)
               (r.others 1 (apart 1 8 refl) (apart 1 10 refl) ∙ ready.others 1 (omega arith) (apart 1 10 refl) (apart 1 11 refl) (apart 1 17 refl) ∙ called.from)
-              (λ i lt. given_on base x.frames r i lt) body_reach
+              (λ i lt. given_on base x.frames r i lt)
+              (subst (λ o. InSteps 4 deeper m fn.frame inside (reached (frame_in o)) fn.body 0 (point (arguments args) (record w0 { depth = u.world.depth + 1; stack = flat_base }))) own body_reach)
               (subst (λ b. Agrees s (running laws s scene f number u.world.stack) (record w0 { depth = u.world.depth + 1; stack = b }) (after s (j + 1 + 1))) same_base now) called.kept
               (omega arith) (omega (arith, early, ready.few)) (omega (arith, late, ready.few))

@@ -14,7 +14,7 @@ use Rattle.rv_asm.specs.Runs.{PartsAt}
 use Rattle.rv_select.specs.Selection.{item_labels, items_labels, is_end, choice_parts, loop_parts, items_parts}
 use Rattle.rv_select.specs.Steps.{plains, fetch, held_after, slot_code, step_parts, call_parts}
 use Rattle.select_runs.specs.Fits.{AreValues, FitsStep, FitItems}
-use Rattle.select_runs.specs.InReach.{IsInReach, in_reach}
+use Rattle.select_runs.specs.InReach.{IsInReach, reached}
 use Rattle.select_runs.specs.Scene.{Scene, IsScene, Frame, HasRoom, At}
 use Rattle.select_runs.proofs.Agree.{Laws, spent}
 use Rattle.select_runs.proofs.Reach.{Arrives, Around, Comes, comes_on, comes_from, forget, then_comes, block_comes}
@@ -27,6 +27,7 @@ use Rattle.select_runs.proofs.Storing.{store_runs}
 use Rattle.select_runs.proofs.Slots.{slot_runs}
 use Rattle.select_runs.proofs.Checking.{checked_runs}
 use Rattle.select_runs.proofs.Looking.{look_runs}
+use Rattle.select_runs.proofs.Framed.{frame_runs}
 use Rattle.select_runs.proofs.Asking.{exit_runs, get_runs, put_runs, report_runs, line_runs}
 
 more_inner : (m : ℕ) → m ≤ inner_turns m
@@ -44,10 +45,10 @@ module _ (laws : Laws) (s : Scene) (scene : IsScene s) (f : Frame) (room : HasRo
     (calls : CallsFollow s f g m frame q call inside params) where
   -- each step that steps come to is in reach
   abbrev Reached : FSteps → (place : ℕ) → FPoint → Type 0
-  Reached steps p u = InSteps g call m frame inside (in_reach 0) steps p u
+  Reached steps p u = InSteps g call m frame inside (reached frame) steps p u
 
   step_runs : (st : FStep) (r : Around) (a b p : ℕ) (known : Option ℕ) (u : FPoint) (k : ℕ) → FitsStep f.values params (length r.exits) st
-      → IsInReach st u → InStep g call m frame inside (in_reach 0) st p (point u.words (spend (charge st) u.world)) → PartsAt s.text s.all s.labels a (step_parts g r.back known r.exits st) b → At s f a known u k
+      → IsInReach frame st u → InStep g call m frame inside (reached frame) st p (point u.words (spend (charge st) u.world)) → PartsAt s.text s.all s.labels a (step_parts g r.back known r.exits st) b → At s f a known u k
       → Comes s f r b (held_after known st) q k u.world.time (act g call m frame st (point u.words (spend (charge st) u.world)))
   step_runs (FStep.Number to value) r a b p known u k fits reach inner h at = number_runs laws s scene f room g a b known to value u k fits.0 fits.1 h at
   step_runs (FStep.Same to from) r a b p known u k fits reach inner h at = same_runs laws s scene f room g a b known to from u k fits.0 fits.1 h at
@@ -70,6 +71,8 @@ module _ (laws : Laws) (s : Scene) (scene : IsScene s) (f : Frame) (room : HasRo
   step_runs (FStep.Look to slot) r a b p known u k fits reach inner h at =
       subst (λ e. Comes s f r b (Some to) q k u.world.time (act e call m frame (FStep.Look to slot) (point u.words (spend 4 u.world)))) (sym four)
       (look_runs laws s scene f room to slot r q a b known u k fits.0 fits.1 reach h at)
+  step_runs (FStep.FrameAt to offset) r a b p known u k fits reach inner h at =
+      frame_runs laws s scene f room to offset frame r q a b known u k fits.0 fits.1 reach h at
   step_runs (FStep.LineMark line) r a b p known u k fits reach inner h at = line_runs laws s scene f room line a b known u k fits h at
   step_runs (FStep.Report kind line) r a b p known u k fits reach inner h at = report_runs laws s scene f room kind line a b known u k fits h at
   step_runs (FStep.Env to zero x y) r a b p known u k fits reach inner h at = absurd (let e : 1 ≤ 0 = fits.3 in omega (arith, e))

@@ -14,6 +14,7 @@ pub mod Slots
 pub mod Checking
 pub mod Tables
 pub mod Looking
+pub mod Framed
 pub mod Items
 pub mod Raw
 pub mod Pushes

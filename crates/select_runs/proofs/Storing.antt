@@ -133,7 +133,7 @@ module _ (laws : Laws) (s : Scene) (scene : IsScene s) (f : Frame) (room : HasRo
         said = a0.said;
         accesses = a0.accesses;
         returns = a0.returns;
-        settled = record { live = a0.settled.live; high = a0.settled.high };
+        settled = record { live = a0.settled.live; high = a0.settled.high; stack = a0.settled.stack };
       } in
       let kept : IsKept s w.told = record { by = laws.kept_more s.start u.world.told y (k + 1) at.kept.by soon (ap (λ z. shared z.told) same ∙ agrees.said) } in
       record {

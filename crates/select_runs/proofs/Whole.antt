@@ -135,7 +135,7 @@ module _ (laws : Laws) (s : Scene) (scene : IsScene s) where
                 ((laws.each_appends s.globals s.globals did.events (event ∷ [])).1 (quiet.safe _ _, (tt, tt))));
             returns = ap (λ x. open_after [] (events_of x.told)) last ∙ ap (open_after []) events ∙ laws.open_appends [] did.events (event ∷ []) ∙ ap (λ o. open_on o (event ∷ [])) (quiet.stay [])
                 ∙ ap (λ x. Some (x ∷ [])) four;
-            settled = record { live = st.live; high = tt };
+            settled = record { live = st.live; high = tt; stack = omega arith };
           };
           kept = record { by = λ n front came. nothing_came n front came };
         };

@@ -29,6 +29,7 @@ module _ (values : ℕ) (params : ℕ → Option ℕ) where
   FitsStep levels (FStep.Slot to from) = (to < values) × (from < values)
   FitsStep levels (FStep.Checked from to) = (from < values) × (to < values)
   FitsStep levels (FStep.Look to slot) = (to < values) × (slot < values)
+  FitsStep levels (FStep.FrameAt to offset) = (to < values) × (offset < 2 ^ 31)
   FitsStep levels (FStep.LineMark line) = line < 2 ^ 20
   FitsStep levels (FStep.Report kind line) = line < values
   FitsStep levels (FStep.Env to call a b) = (to < values) × (a < values) × (b < values) × (1 ≤ call) × (call ≤ 3)

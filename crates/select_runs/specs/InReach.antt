@@ -1,11 +1,12 @@
 -- Which steps a run of flat code may come to, so that a machine follows it.
-use Rattle.std.specs.Prelude.{◌≡◌, ◌≢◌, ℕ, ◌^◌, ◌<◌, ◌≤◌, List, Some, None}
+use Rattle.std.specs.Prelude.{◌≡◌, ◌≢◌, ℕ, ◌^◌, ◌<◌, ◌≤◌, List, Some, None, slice_get}
 use Rattle.bb_words.specs.Steps.{size_of_width}
 use Rattle.size_table.specs.declared.memory_map.TheConstants.{GLOBALS_START}
 use Rattle.size_table.specs.Blocks.{Block}
-use Rattle.flat_code.specs.Code.{FStep, FCode}
+use Rattle.flat_code.specs.Code.{FStep, FFunction, FCode}
 use Rattle.flat_code.specs.World.{FPoint, Ending}
 use Rattle.flat_code.specs.Run.{refusal}
+use Rattle.flat_verify.specs.Discipline.{frame_in}
 use Rattle.flat_verify.specs.Comes.{Claim, InRun}
 
 -- An access is neither past the memory's end nor in the text; and where it is made, it is to the globals or above: below
@@ -14,17 +15,21 @@ pub record IsReached (at size : ℕ) : Type 0 where
   pub mapped : refusal at size ≢ Some Ending.Cut
   pub high : refusal at size ≡ None → GLOBALS_START ≤ at
 
--- A look is at one of the slots of memory, and an access is reached.
-abbrev pub IsInReach : FStep → FPoint → Type 0
-IsInReach (FStep.Look to slot) u = u.words slot < 2 ^ 21
-IsInReach (FStep.Load to at width) u = IsReached (u.words at) (size_of_width width)
-IsInReach (FStep.Store at from width) u = IsReached (u.words at) (size_of_width width)
-IsInReach s u = Unit {0}
+-- An address in the frame is below its end, a look is at one of the slots of memory, and an access is reached.
+abbrev pub IsInReach : (frame : ℕ) → FStep → FPoint → Type 0
+IsInReach frame (FStep.FrameAt to offset) u = offset < frame
+IsInReach frame (FStep.Look to slot) u = u.words slot < 2 ^ 21
+IsInReach frame (FStep.Load to at width) u = IsReached (u.words at) (size_of_width width)
+IsInReach frame (FStep.Store at from width) u = IsReached (u.words at) (size_of_width width)
+IsInReach frame s u = Unit {0}
 
--- it is claimed of each step of each function
-abbrev pub in_reach : (function : ℕ) → Claim
-in_reach function place s u = IsInReach s u
+-- it is claimed of each step of a function with such a frame
+abbrev pub reached : (frame : ℕ) → Claim
+reached frame place s u = IsInReach frame s u
+
+abbrev pub in_reach : List FFunction → (function : ℕ) → Claim
+in_reach functions function = reached (frame_in (slice_get functions function))
 
 -- each step that a run comes to is in reach
 abbrev pub RunsInReach : FCode → (globals : List Block) → (frames : List (List ℕ)) → (input : List ℕ) → (m : ℕ) → Type 0
-RunsInReach code globals frames input m = InRun 4 code globals frames input m in_reach
+RunsInReach code globals frames input m = InRun 4 code globals frames input m (in_reach code.functions)

@@ -105,10 +105,12 @@ abbrev pub AreHigh : List Tell → Type 0
 AreHigh [] = Unit {0}
 AreHigh (what ∷ more) = IsHigh what × AreHigh more
 
--- The blocks that live are those of what was told, and all accesses that were told are to the globals or above.
+-- The blocks that live are those of what was told, all accesses that were told are to the globals or above, and the stack
+-- number is not past the end of the data stack.
 pub record IsSettled (globals : List Block) (w : FWorld) : Type 0 where
   pub live : w.live ≡ live_of globals (tells w.told)
   pub high : AreHigh (tells w.told)
+  pub stack : w.stack ≤ HEAP_START
 
 -- A machine agrees with a world of flat code, but for the values of the call that runs: from the globals on both have the
 -- same bytes, and both have told the same; it has kept control.
