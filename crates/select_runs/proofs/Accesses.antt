@@ -1,5 +1,5 @@
 -- Accesses of flat code beside those of the machine: both trap alike, and read the same.
-use Rattle.std.proofs.Common.{◌≡◌, ◌≢◌, ◌==◌, ℕ, ◌+◌, ◌*◌, ◌%◌, ◌^◌, ◌<◌, ◌≤◌, ◌⊎◌, inl, inr, Bool, true, false, if◌then◌else◌, List, [], ◌∷◌, Option, Some, None, refl, sym, ap, ◌∙◌, arith}
+use Rattle.std.proofs.Common.{◌≡◌, ◌≢◌, ◌==◌, ℕ, ◌+◌, ◌%◌, ◌^◌, ◌<◌, ◌≤◌, ◌⊎◌, inl, inr, Bool, true, false, if◌then◌else◌, List, [], ◌∷◌, Option, Some, None, refl, sym, ap, ◌∙◌, arith}
 use Rattle.std.specs.Prelude.{nat_lt, nat_le, slice_index}
 use Rattle.std.proofs.lemmas.Bool.{le-leb, ne_eqb, cases_eq, cases_lt}
 use Rattle.bb_words.specs.Numbers.{sum}
@@ -30,7 +30,7 @@ traps_alike at size mapped = by_tests (nat_lt at TEXT_START) (nat_le (2 ^ 31) at
     by_tests : (null marked past text even : Bool)
         → (if null then Some (Ending.Trapped trap.Null) else if marked then Some (Ending.Trapped trap.Marked) else if past then Some Ending.Cut else if text then Some Ending.Cut else if even then None else Some (Ending.Trapped trap.Misaligned)) ≢ Some Ending.Cut
         → Alike (if null then Some (Ending.Trapped trap.Null) else if marked then Some (Ending.Trapped trap.Marked) else if past then Some Ending.Cut else if text then Some Ending.Cut else if even then None else Some (Ending.Trapped trap.Misaligned))
-            (if null then Some trap.Null else if marked then Some trap.Marked else if past then Some trap.Unmapped else if text then Some trap.Text else if even then None else Some trap.Misaligned)
+        (if null then Some trap.Null else if marked then Some trap.Marked else if past then Some trap.Unmapped else if text then Some trap.Text else if even then None else Some trap.Misaligned)
     by_tests true marked past text even m = inr (trap.Null, refl, refl)
     by_tests false true past text even m = inr (trap.Marked, refl, refl)
     by_tests false false true text even m = absurd (m refl)

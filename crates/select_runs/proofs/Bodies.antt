@@ -1,5 +1,5 @@
 -- How a machine follows a function, from its label to the place that it returns to.
-use Rattle.std.proofs.Common.{◌≡◌, ℕ, zero, suc, ◌+◌, ◌*◌, ◌%◌, ◌^◌, ◌<◌, ◌≤◌, ◌⊎◌, inl, inr, List, [], ◌∷◌, ◌++◌, length, Option, Some, None, refl, sym, ap, ◌∙◌, subst, arith, length-append}
+use Rattle.std.proofs.Common.{◌≡◌, ℕ, zero, suc, ◌+◌, ◌*◌, ◌%◌, ◌^◌, ◌<◌, ◌≤◌, ◌⊎◌, inl, inr, List, [], ◌∷◌, length, Option, Some, None, refl, sym, ap, ◌∙◌, subst, arith, length-append}
 use Rattle.std.specs.Prelude.{slice_get, slice_index_or}
 use Rattle.std.proofs.lemmas.Bool.{cases_lt}
 use Rattle.bb_words.specs.Answers.{Answer, and_then}
@@ -11,7 +11,6 @@ use Rattle.flat_verify.specs.Comes.{InSteps}
 use Rattle.flat_verify.specs.Items.{all_steps, items_of}
 use Rattle.rv_asm.specs.declared.parts.Part.TheVariants.{Plain, Label}
 use Rattle.rv_asm.specs.Runs.{IsAt, PartsAt}
-use Rattle.rv_code.specs.declared.instr.Instr.{Instr}
 use Rattle.rv_code.specs.declared.instr.Instr.TheVariants.{Addi}
 use Rattle.rv_machine.specs.State.{Core, register_of}
 use Rattle.rv_select.specs.Layout.{cell}
@@ -25,7 +24,7 @@ use Rattle.select_runs.specs.Scene.{Scene, IsScene, after, Frame, edge, HasRoom,
 use Rattle.select_runs.proofs.Agree.{Laws, itself}
 use Rattle.select_runs.proofs.Reach.{Comes, ends_from}
 use Rattle.select_runs.proofs.Moves.{cell_is, row}
-use Rattle.select_runs.proofs.Pieces.{is_set, plains_join}
+use Rattle.select_runs.proofs.Pieces.{is_set}
 use Rattle.select_runs.proofs.Items.{items_run}
 use Rattle.select_runs.proofs.Raw.{core_at}
 use Rattle.select_runs.proofs.Pushes.{HasPlace, frame_push}

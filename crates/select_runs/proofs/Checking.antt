@@ -1,5 +1,5 @@
 -- How a machine follows a move that was checked.
-use Rattle.std.proofs.Common.{◌≡◌, ◌≢◌, ℕ, ◌+◌, ◌<◌, ◌≤◌, List, [], ◌∷◌, ◌++◌, Option, Some, None, refl, sym, ap, ◌∙◌, subst, arith}
+use Rattle.std.proofs.Common.{◌≡◌, ℕ, ◌+◌, ◌<◌, ◌≤◌, List, [], ◌∷◌, Option, Some, None, refl, sym, ap, ◌∙◌, subst, arith}
 use Rattle.bb_watch.specs.declared.event.Event.{Event}
 use Rattle.bb_watch.specs.declared.event.Event.TheVariants.{Move}
 use Rattle.bb_watch.specs.Told.{Happens}

@@ -1,8 +1,7 @@
 -- How a machine follows the step that takes an address in the frame.
-use Rattle.std.proofs.Common.{◌≡◌, ◌≢◌, ℕ, ◌+◌, ◌*◌, ◌%◌, ◌^◌, ◌<◌, ◌≤◌, Bool, true, false, if◌then◌else◌, List, [], ◌∷◌, ◌++◌, length, Option, Some, None, refl, sym, ap, ◌∙◌, subst, arith}
+use Rattle.std.proofs.Common.{◌≡◌, ℕ, ◌+◌, ◌*◌, ◌^◌, ◌<◌, ◌≤◌, Bool, true, false, if◌then◌else◌, [], ◌∷◌, ◌++◌, length, Option, Some, None, refl, sym, ap, ◌∙◌, subst, arith}
 use Rattle.std.specs.Prelude.{nat_lt}
 use Rattle.std.proofs.lemmas.Bool.{lt-ltb}
-use Rattle.bb_words.specs.Numbers.{sum}
 use Rattle.flat_code.specs.World.{with_word, put, FPoint, point, spend, choose, Ending}
 use Rattle.flat_code.specs.Run.{goes, ends}
 use Rattle.rv_asm.specs.Runs.{PartsAt}
@@ -10,7 +9,6 @@ use Rattle.rv_code.specs.declared.instr.Instr.TheVariants.{Addi, Add}
 use Rattle.rv_machine.specs.State.{Core, register_of}
 use Rattle.rv_select.specs.Layout.{cell, store, constant, is_short}
 use Rattle.rv_select.specs.Steps.{plains, frame_code}
-use Rattle.rv_select.specs.Straight.{does_all}
 use Rattle.select_runs.specs.Scene.{Scene, IsScene, after, Frame, HasRoom, At}
 use Rattle.select_runs.proofs.Agree.{Laws, spent, itself}
 use Rattle.select_runs.proofs.Reach.{Arrives, Around, Comes, forget}

@@ -16,7 +16,6 @@ use Rattle.flat_code.specs.Code.{FFunction}
 use Rattle.flat_code.specs.World.{FWorld, FPoint, Ending}
 use Rattle.rv_asm.specs.declared.parts.Part.TheVariants.{Plain}
 use Rattle.rv_asm.specs.Runs.{IsAt, PartAt, PartsAt, gone}
-use Rattle.rv_code.specs.declared.instr.Instr.{Instr}
 use Rattle.rv_code.specs.declared.instr.Instr.TheVariants.{Addi, Jalr, Ecall}
 use Rattle.rv_machine.specs.declared.frames.Entered.{Entered}
 use Rattle.rv_machine.specs.declared.stop.Halt.TheVariants.{Reported}

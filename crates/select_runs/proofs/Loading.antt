@@ -1,5 +1,5 @@
 -- How a machine follows a load.
-use Rattle.std.proofs.Common.{◌≡◌, ◌≢◌, ℕ, ◌+◌, ◌*◌, ◌%◌, ◌^◌, ◌<◌, ◌≤◌, ◌⊎◌, inl, inr, Bool, false, List, [], ◌∷◌, ◌++◌, Option, Some, None, refl, sym, ap, ◌∙◌, subst, arith}
+use Rattle.std.proofs.Common.{◌≡◌, ◌≢◌, ℕ, ◌+◌, ◌*◌, ◌<◌, ◌≤◌, ◌⊎◌, inl, inr, Bool, false, List, [], ◌∷◌, Option, Some, None, refl, sym, ap, ◌∙◌, subst, arith}
 use Rattle.std.proofs.lemmas.List.{get_or-set_same, get_or-set_other}
 use Rattle.bb_words.specs.Numbers.{sum}
 use Rattle.bb_words.specs.Steps.{size_of_width}
@@ -8,10 +8,10 @@ use Rattle.bb_words.specs.declared.steps.Width.{Width}
 use Rattle.bb_watch.specs.declared.event.Event.{Event}
 use Rattle.bb_watch.specs.declared.event.Event.TheVariants.{Access}
 use Rattle.bb_watch.specs.Told.{Happens}
-use Rattle.size_table.specs.declared.memory_map.TheConstants.{GLOBALS_START, MEMORY_END}
+use Rattle.size_table.specs.declared.memory_map.TheConstants.{GLOBALS_START}
 use Rattle.flat_code.specs.Told as flat
 use Rattle.flat_code.specs.Told.{Stamped}
-use Rattle.flat_code.specs.World.{with_word, read, FWorld, FPoint, point, spend, Ending}
+use Rattle.flat_code.specs.World.{with_word, read, FPoint, point, spend, Ending}
 use Rattle.flat_code.specs.Run.{refusal, access, unless_refused, goes, loaded}
 use Rattle.flat_landing.specs.Lands.{KeepsControl}
 use Rattle.flat_landing.specs.Shared.{shared}
@@ -21,7 +21,7 @@ use Rattle.rv_code.specs.declared.instr.Instr.{Instr}
 use Rattle.rv_machine.specs.declared.stop.Halt.TheVariants as halt
 use Rattle.rv_machine.specs.State.{Core, register_of, gives, halted}
 use Rattle.rv_machine.specs.Instruction.{Goes, Traps, access_trap, unless_trap, effect}
-use Rattle.rv_machine.specs.Environment.{World, with_machine}
+use Rattle.rv_machine.specs.Environment.{with_machine}
 use Rattle.rv_machine.specs.Machine.{step}
 use Rattle.rv_select.specs.Layout.{cell, store}
 use Rattle.rv_select.specs.Steps.{plains, fetch, read_code, loading_code}
@@ -29,7 +29,7 @@ use Rattle.select_runs.specs.InReach.{IsReached}
 use Rattle.select_runs.specs.Scene.{Scene, IsScene, after, Frame, HasRoom, HoldsFrame, Agrees, IsKept, At}
 use Rattle.select_runs.proofs.Straight.{step_acts}
 use Rattle.select_runs.proofs.Agree.{Laws, itself}
-use Rattle.select_runs.proofs.Reach.{Arrives, Finishes, Around, Comes, control_of}
+use Rattle.select_runs.proofs.Reach.{Finishes, Around, Comes, control_of}
 use Rattle.select_runs.proofs.Moves.{apart, one_step, behind_apart, frame_moves, stands_at, held, row}
 use Rattle.select_runs.proofs.Pieces.{plains_split, store_straight, stored, changed_here, changed_other}
 use Rattle.select_runs.proofs.Steps.{values_small, fetches}

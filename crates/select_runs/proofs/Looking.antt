@@ -1,15 +1,14 @@
 -- How a machine follows a look into the size table.
-use Rattle.std.proofs.Common.{◌≡◌, ◌≢◌, ℕ, ◌+◌, ◌-◌, ◌%◌, ◌^◌, ◌<◌, ◌≤◌, inr, false, List, [], ◌∷◌, ◌++◌, Option, Some, None, refl, sym, ap, ◌∙◌, subst, arith}
+use Rattle.std.proofs.Common.{◌≡◌, ◌≢◌, ℕ, ◌+◌, ◌-◌, ◌%◌, ◌^◌, ◌<◌, ◌≤◌, false, List, [], ◌∷◌, ◌++◌, Option, Some, None, refl, sym, ap, ◌∙◌, subst, arith}
 use Rattle.std.specs.Prelude.{nat_lt, slice_index}
 use Rattle.std.proofs.lemmas.Bool.{lt-ltb, le-ltb, lt-leb, eq-eqb}
 use Rattle.std.proofs.lemmas.List.{get_or-set_same, get_or-set_other}
-use Rattle.bb_words.specs.Answers.{Answer}
 use Rattle.bb_words.specs.Numbers.{sum}
 use Rattle.bb_watch.specs.declared.event.Event.{Event}
 use Rattle.bb_watch.specs.declared.event.Event.TheVariants.{Access}
 use Rattle.size_table.specs.Table.{byte_of}
 use Rattle.size_table.specs.declared.memory_map.TheConstants.{TABLE_START}
-use Rattle.flat_code.specs.World.{with_word, put, FPoint, point, spend, choose, Ending}
+use Rattle.flat_code.specs.World.{put, FPoint, point, spend, choose, Ending}
 use Rattle.flat_code.specs.Run.{goes, ends}
 use Rattle.rv_asm.specs.declared.parts.Part.TheVariants.{Plain}
 use Rattle.rv_asm.specs.Runs.{PartAt, PartsAt, gone}
@@ -22,10 +21,10 @@ use Rattle.rv_select.specs.Steps.{plains, fetch, look_code, looked_code}
 use Rattle.select_runs.specs.Scene.{Scene, IsScene, after, Frame, HasRoom, HoldsFrame, Agrees, At}
 use Rattle.select_runs.proofs.Straight.{step_acts}
 use Rattle.select_runs.proofs.Agree.{Laws, AreUnnoticed, itself, agrees_gone}
-use Rattle.select_runs.proofs.Reach.{Arrives, Around, Comes}
+use Rattle.select_runs.proofs.Reach.{Around, Comes}
 use Rattle.select_runs.proofs.Moves.{apart, one_step, frame_moves, stands_at, row}
 use Rattle.select_runs.proofs.Pieces.{is_set, plains_split}
-use Rattle.select_runs.proofs.Steps.{values_small, fetches}
+use Rattle.select_runs.proofs.Steps.{fetches}
 use Rattle.select_runs.proofs.Loading.{keeps_on}
 use Rattle.select_runs.proofs.Tables.{table_byte}
 

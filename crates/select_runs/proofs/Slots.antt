@@ -1,16 +1,15 @@
 -- How a machine follows the step that finds the slot of a word.
-use Rattle.std.proofs.Common.{◌≡◌, ◌==◌, ℕ, ◌+◌, ◌-◌, ◌*◌, ◌/◌, ◌%◌, ◌^◌, ◌<◌, ◌≤◌, ◌⊎◌, inl, inr, Bool, true, false, if◌then◌else◌, List, [], ◌∷◌, ◌++◌, Option, Some, None, refl, sym, ap, ◌∙◌, arith}
-use Rattle.std.specs.Prelude.{nat_lt, bit_and}
+use Rattle.std.proofs.Common.{◌≡◌, ◌==◌, ℕ, ◌+◌, ◌-◌, ◌*◌, ◌/◌, ◌%◌, ◌^◌, ◌<◌, ◌≤◌, ◌⊎◌, inl, inr, if◌then◌else◌, [], ◌∷◌, ◌++◌, Option, Some, None, refl, sym, ap, ◌∙◌, arith}
+use Rattle.std.specs.Prelude.{bit_and}
 use Rattle.std.proofs.lemmas.Bool.{lt-ltb, le-ltb, eq-eqb, ne_eqb, cases_eq, cases_lt}
 use Rattle.std.specs.Int.Bits.{and_zero_r}
 use Rattle.std.proofs.lemmas.Nat.{and_mask}
 use Rattle.std.proofs.lemmas.Nat.Bits.{and_high}
-use Rattle.bb_words.specs.Numbers.{sum, difference, left_shift, right_shift, all_ones}
-use Rattle.marked_ptr.specs.Marked.{marked_slot, owner_slot}
+use Rattle.bb_words.specs.Numbers.{sum, difference, left_shift, right_shift}
+use Rattle.marked_ptr.specs.Marked.{marked_slot}
 use Rattle.flat_code.specs.World.{with_word, FPoint, point, spend}
 use Rattle.flat_code.specs.Run.{slot_or_ones, slot_word}
 use Rattle.rv_asm.specs.Runs.{PartsAt}
-use Rattle.rv_code.specs.declared.instr.Instr.{Instr}
 use Rattle.rv_select.specs.Layout.{cell, store}
 use Rattle.rv_select.specs.Steps.{plains, fetch, owner_code, slot_code}
 use Rattle.rv_select.specs.Straight.{does_all, AreStraight}
@@ -86,15 +85,31 @@ slot_is z x none small = by_cases (cases_lt x (2 ^ 31))
 owner_straight : (words : ℕ) → AreStraight words (owner_code 4)
 owner_straight words = (
   (is_set 6 (omega arith) (omega arith), omega arith),
-  ((is_set 6 (omega arith) (omega arith), omega arith, omega arith),
-  ((is_set 7 (omega arith) (omega arith), omega arith),
-  ((is_set 7 (omega arith) (omega arith), omega arith),
-  ((is_set 12 (omega arith) (omega arith), omega arith),
-  ((is_set 12 (omega arith) (omega arith), omega arith),
-  ((is_set 12 (omega arith) (omega arith), omega arith),
-  ((is_set 12 (omega arith) (omega arith), omega arith, omega arith),
-  ((is_set 7 (omega arith) (omega arith), omega arith),
-  ((is_set 7 (omega arith) (omega arith), omega arith, omega arith), tt))))))))),
+  (
+    (is_set 6 (omega arith) (omega arith), omega arith, omega arith),
+    (
+      (is_set 7 (omega arith) (omega arith), omega arith),
+      (
+        (is_set 7 (omega arith) (omega arith), omega arith),
+        (
+          (is_set 12 (omega arith) (omega arith), omega arith),
+          (
+            (is_set 12 (omega arith) (omega arith), omega arith),
+            (
+              (is_set 12 (omega arith) (omega arith), omega arith),
+              (
+                (is_set 12 (omega arith) (omega arith), omega arith, omega arith),
+                (
+                  (is_set 7 (omega arith) (omega arith), omega arith),
+                  ((is_set 7 (omega arith) (omega arith), omega arith, omega arith), tt),
+                ),
+              ),
+            ),
+          ),
+        ),
+      ),
+    ),
+  ),
 )
 
 module _ (laws : Laws) (s : Scene) (scene : IsScene s) (f : Frame) (room : HasRoom f) where

@@ -1,5 +1,5 @@
 -- How a machine follows a store.
-use Rattle.std.proofs.Common.{◌≡◌, ◌≢◌, ℕ, ◌+◌, ◌*◌, ◌%◌, ◌^◌, ◌<◌, ◌≤◌, ◌⊎◌, inl, inr, Bool, true, List, [], ◌∷◌, ◌++◌, length, Option, Some, None, refl, sym, ap, ◌∙◌, subst, arith}
+use Rattle.std.proofs.Common.{◌≡◌, ℕ, ◌+◌, ◌*◌, ◌<◌, ◌≤◌, ◌⊎◌, inl, inr, true, List, [], ◌∷◌, ◌++◌, Option, Some, None, refl, sym, ap, ◌∙◌, subst, arith}
 use Rattle.std.specs.Prelude.{slice_index}
 use Rattle.bb_words.specs.Numbers.{sum}
 use Rattle.bb_words.specs.Steps.{size_of_width}
@@ -17,11 +17,8 @@ use Rattle.flat_code.specs.Run.{refusal, access, unless_refused, goes, stored}
 use Rattle.flat_landing.specs.Shared.{shared}
 use Rattle.rv_asm.specs.declared.parts.Part.TheVariants.{Plain}
 use Rattle.rv_asm.specs.Runs.{PartAt, PartsAt, gone}
-use Rattle.rv_code.specs.declared.instr.Instr.{Instr}
 use Rattle.rv_machine.specs.State.{Core, register_of, next, with_memory}
 use Rattle.rv_machine.specs.Instruction.{Goes, Traps, access_trap, unless_trap, effect}
-use Rattle.rv_machine.specs.Environment.{World}
-use Rattle.rv_machine.specs.Formed.{IsCore}
 use Rattle.rv_machine.specs.Machine.{step}
 use Rattle.rv_select.specs.Layout.{cell, load}
 use Rattle.rv_select.specs.Steps.{plains, fetch, write_code, storing_code}
@@ -29,7 +26,7 @@ use Rattle.select_runs.specs.InReach.{IsReached}
 use Rattle.select_runs.specs.Scene.{Scene, IsScene, after, Frame, HasRoom, HoldsFrame, Agrees, IsKept, At}
 use Rattle.select_runs.proofs.Straight.{step_acts, same_word, memory_long}
 use Rattle.select_runs.proofs.Agree.{Laws, itself}
-use Rattle.select_runs.proofs.Reach.{Arrives, Around, Comes}
+use Rattle.select_runs.proofs.Reach.{Around, Comes}
 use Rattle.select_runs.proofs.Moves.{one_step, cell_is, stands_at, row}
 use Rattle.select_runs.proofs.Pieces.{plains_split, plains_join, load_straight}
 use Rattle.select_runs.proofs.Steps.{values_small, fetches}

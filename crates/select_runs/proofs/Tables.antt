@@ -1,6 +1,6 @@
 -- The size table of a machine that agrees with flat code: that of the blocks that live in flat code.
-use Rattle.std.proofs.Common.{◌≡◌, ◌==◌, ℕ, ◌+◌, ◌<◌, ◌≤◌, ◌⊎◌, inl, inr, ◌||◌, Bool, true, false, if◌then◌else◌, List, [], ◌∷◌, ◌++◌, refl, sym, ap, ◌∙◌, subst, arith}
-use Rattle.std.specs.Prelude.{take, drop, slice_index}
+use Rattle.std.proofs.Common.{◌≡◌, ◌==◌, ℕ, ◌+◌, ◌<◌, ◌⊎◌, inl, inr, ◌||◌, Bool, true, false, if◌then◌else◌, List, [], ◌∷◌, ◌++◌, refl, sym, ap, ◌∙◌, subst, arith}
+use Rattle.std.specs.Prelude.{drop, slice_index}
 use Rattle.std.proofs.lemmas.Bool.{ne_eqb, cases_eq}
 use Rattle.std.proofs.lemmas.List.{get_or-take, get_or-drop}
 use Rattle.bb_watch.specs.declared.event.Event.TheVariants as event
@@ -9,7 +9,7 @@ use Rattle.bb_watch.specs.Told as machine
 use Rattle.bb_watch.specs.Told.{events_of}
 use Rattle.bb_watch.specs.Safety.{Each, IsControlSafe}
 use Rattle.size_table.specs.Blocks.{Block, block_at, without}
-use Rattle.size_table.specs.Table.{byte_of, table_in, IsTableOf}
+use Rattle.size_table.specs.Table.{byte_of, table_in}
 use Rattle.size_table.specs.declared.memory_map.TheConstants.{TABLE_START}
 use Rattle.flat_code.specs.Safety.{live_of}
 use Rattle.flat_code.specs.Told as flat
@@ -59,7 +59,7 @@ off_table (machine.Happens (event.Access pc at size write base) ∷ told) live e
     by_base control up (inr not_two) (inl is) = absurd (let e : true ≡ false = (control.1 is).0 in let q : ⊥ = cc in q)
     by_base control up (inr not_two) (inr neither) =
         inr (let made : AreHigh (flat.Tell.Access at size true ∷ shared told) =
-            subst (λ t. AreHigh ((if t then [] else flat.Tell.Access at size true ∷ []) ++ shared told)) (ap (λ t. t || (base == 31)) (ne_eqb base 2 not_two) ∙ ne_eqb base 31 neither) up in
+        subst (λ t. AreHigh ((if t then [] else flat.Tell.Access at size true ∷ []) ++ shared told)) (ap (λ t. t || (base == 31)) (ne_eqb base 2 not_two) ∙ ne_eqb base 31 neither) up in
         let low = made.0 in omega (arith, low))
 
     by_write : (write : Bool) → IsControlSafe live ever (event.Access pc at size write base) → AreHigh ((if (base == 2) || (base == 31) then [] else flat.Tell.Access at size write ∷ []) ++ shared told)
