@@ -26,3 +26,4 @@ pub mod Followed
 pub mod Calls
 pub mod Whole
 pub mod Images
+pub mod Calm

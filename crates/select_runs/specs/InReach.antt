@@ -3,7 +3,7 @@ use Rattle.std.specs.Prelude.{◌≡◌, ◌≢◌, ℕ, ◌^◌, ◌<◌, ◌�
 use Rattle.bb_words.specs.Steps.{size_of_width}
 use Rattle.size_table.specs.declared.memory_map.TheConstants.{GLOBALS_START}
 use Rattle.size_table.specs.Blocks.{Block}
-use Rattle.flat_code.specs.Code.{FStep, FFunction, FCode}
+use Rattle.flat_code.specs.Code.{FStep, FSteps, FFunction, FCode}
 use Rattle.flat_code.specs.World.{FPoint, Ending}
 use Rattle.flat_code.specs.Run.{refusal}
 use Rattle.flat_verify.specs.Discipline.{frame_in}
@@ -33,3 +33,28 @@ in_reach functions function = reached (frame_in (slice_get functions function))
 -- each step that a run comes to is in reach
 abbrev pub RunsInReach : FCode → (globals : List Block) → (frames : List (List ℕ)) → (input : List ℕ) → (m : ℕ) → Type 0
 RunsInReach code globals frames input m = InRun 4 code globals frames input m (in_reach code.functions)
+
+-- ---- Code whose runs are all in reach
+
+-- No step looks into the size table, takes an address in the frame, or accesses memory.
+abbrev mutual
+  pub IsCalm : FStep → Type 0
+  IsCalm (FStep.If cond first second) = AreCalm first × AreCalm second
+  IsCalm (FStep.Block body) = AreCalm body
+  IsCalm (FStep.Loop body) = AreCalm body
+  IsCalm (FStep.Inner body) = AreCalm body
+  IsCalm (FStep.Look to slot) = ⊥
+  IsCalm (FStep.FrameAt to offset) = ⊥
+  IsCalm (FStep.Load to at width) = ⊥
+  IsCalm (FStep.Store at from width) = ⊥
+  IsCalm s = Unit {0}
+
+  pub AreCalm : FSteps → Type 0
+  AreCalm FSteps.none = Unit {0}
+  AreCalm (FSteps.more s rest) = IsCalm s × AreCalm rest
+
+-- Of such functions each run is in reach.
+abbrev pub CalmIsInReach : Type 0
+CalmIsInReach =
+    (code : FCode) → ((number : ℕ) (f : FFunction) → slice_get code.functions number ≡ Some f → AreCalm f.body)
+    → (globals : List Block) (frames : List (List ℕ)) (input : List ℕ) (m : ℕ) → RunsInReach code globals frames input m

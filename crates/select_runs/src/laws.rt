@@ -1,5 +1,6 @@
 //! The laws of selected code that runs.
 ghost use Rattle.select_runs.specs.Frame.{StraightRuns};
+ghost use Rattle.select_runs.specs.InReach.{CalmIsInReach};
 ghost use Rattle.select_runs.specs.Laws.{ProgramsLand, SelectionRuns};
 
 /// Straight code that stands in a text is done in as many steps as it has instructions. It tells accesses to the control
@@ -45,4 +46,11 @@ pub fn selection_runs()
     rv_machine::laws::memory_starts();
     rv_select::laws::labels_stand_once();
     flat_landing::laws::landings_run();
+}
+
+/// Code in which no step looks into the size table, takes an address in the frame, or accesses memory: each of its runs is in
+/// reach.
+pub fn calm_is_in_reach()
+    ensures { CalmIsInReach }
+{
 }
