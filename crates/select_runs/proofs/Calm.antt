@@ -2,15 +2,14 @@
 use Rattle.std.proofs.Common.{◌≡◌, ◌==◌, ℕ, zero, suc, ◌+◌, Bool, true, false, List, Option, Some, None, refl}
 use Rattle.std.specs.Prelude.{nat_lt, nat_le, slice_get}
 use Rattle.bb_words.specs.Answers.{Answer, either}
-use Rattle.size_table.specs.Blocks.{Block}
 use Rattle.size_table.specs.declared.memory_map.TheConstants.{STACK_START, MOST_CALLS}
-use Rattle.flat_code.specs.Code.{FStep, FSteps, FFunction, FCode}
+use Rattle.flat_code.specs.Code.{FStep, FSteps, FFunction}
 use Rattle.flat_code.specs.Accounts.{stack_under, enter}
 use Rattle.flat_code.specs.World.{arguments, FPoint, point, spend, Run, Way}
 use Rattle.flat_code.specs.Run.{Calls, act, act_all, inner_turns, no_calls, calls, start}
 use Rattle.flat_code.specs.Time.{charge, turn_charge, call_charge}
 use Rattle.flat_verify.specs.Items.{step_places, steps_places}
-use Rattle.flat_verify.specs.Comes.{IfOn, InTurns, InStep, InSteps, nothing, InLibrary, InFrame, InDefined, InOne, InNone, InCalls}
+use Rattle.flat_verify.specs.Comes.{IfOn, InTurns, InStep, InSteps, nothing, InLibrary, InDefined, InOne, InNone, InCalls}
 use Rattle.flat_verify.specs.Discipline.{frame_in}
 use Rattle.select_runs.specs.InReach.{IsInReach, reached, in_reach, IsCalm, AreCalm, CalmIsInReach}
 

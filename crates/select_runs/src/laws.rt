@@ -52,5 +52,4 @@ pub fn selection_runs()
 /// reach.
 pub fn calm_is_in_reach()
     ensures { CalmIsInReach }
-{
-}
+{}
