@@ -27,3 +27,4 @@ pub mod Calls
 pub mod Whole
 pub mod Images
 pub mod Calm
+pub mod Claimed

@@ -7,6 +7,7 @@ use Rattle.flat_code.specs.Code.{FStep, FSteps, FFunction, FCode}
 use Rattle.flat_code.specs.World.{FPoint, Ending}
 use Rattle.flat_code.specs.Run.{refusal}
 use Rattle.flat_verify.specs.Discipline.{frame_in}
+use Rattle.flat_verify.specs.Safe.{is_safe_step}
 use Rattle.flat_verify.specs.Comes.{Claim, InRun}
 
 -- An access is neither past the memory's end nor in the text; and where it is made, it is to the globals or above: below
@@ -33,6 +34,21 @@ in_reach functions function = reached (frame_in (slice_get functions function))
 -- each step that a run comes to is in reach
 abbrev pub RunsInReach : FCode → (globals : List Block) → (frames : List (List ℕ)) → (input : List ℕ) → (m : ℕ) → Type 0
 RunsInReach code globals frames input m = InRun 4 code globals frames input m (in_reach code.functions)
+
+-- an access that is made is to the globals or above
+abbrev pub IsHighStep : FStep → FPoint → Type 0
+IsHighStep (FStep.Load to at width) u = refusal (u.words at) (size_of_width width) ≡ None → GLOBALS_START ≤ u.words at
+IsHighStep (FStep.Store at from width) u = refusal (u.words at) (size_of_width width) ≡ None → GLOBALS_START ≤ u.words at
+IsHighStep s u = Unit {0}
+
+abbrev pub is_safe_and_high : (globals : List Block) → List FFunction → (function : ℕ) → Claim
+is_safe_and_high globals functions f place s u = is_safe_step 4 globals functions f place s u × IsHighStep s u
+
+-- A run is in reach if each step that it comes to is safe, and its accesses that are made are to the globals or above.
+abbrev pub SafeIsInReach : Type 0
+SafeIsInReach =
+    (code : FCode) (globals : List Block) (frames : List (List ℕ)) (input : List ℕ) (m : ℕ)
+    → InRun 4 code globals frames input m (is_safe_and_high globals code.functions) → RunsInReach code globals frames input m
 
 -- ---- Code whose runs are all in reach
 

@@ -1,6 +1,6 @@
 //! The laws of selected code that runs.
 ghost use Rattle.select_runs.specs.Frame.{StraightRuns};
-ghost use Rattle.select_runs.specs.InReach.{CalmIsInReach};
+ghost use Rattle.select_runs.specs.InReach.{CalmIsInReach, SafeIsInReach};
 ghost use Rattle.select_runs.specs.Laws.{ProgramsLand, SelectionRuns};
 
 /// Straight code that stands in a text is done in as many steps as it has instructions. It tells accesses to the control
@@ -53,3 +53,9 @@ pub fn selection_runs()
 pub fn calm_is_in_reach()
     ensures { CalmIsInReach }
 {}
+
+/// A run is in reach if each step that it comes to is safe, and its accesses that are made are to the globals or above.
+pub fn safe_is_in_reach()
+    ensures { SafeIsInReach }
+{
+}
