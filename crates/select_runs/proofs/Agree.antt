@@ -7,25 +7,27 @@ use Rattle.bb_watch.specs.Told.{Happens, events_of}
 use Rattle.bb_watch.specs.Laws.{EventsAppend, EventsHappen, EachAppends, OpenAppends, open_on}
 use Rattle.bb_watch.specs.Safety.{Each, IsControlSafe, open_after}
 use Rattle.size_table.specs.Blocks.{Block}
-use Rattle.size_table.specs.declared.memory_map.TheConstants.{GLOBALS_START}
-use Rattle.flat_code.specs.Laws.{TellsAppend}
+use Rattle.size_table.specs.declared.memory_map.TheConstants.{GLOBALS_START, HEAP_START}
+use Rattle.flat_code.specs.Laws.{TellsAppend, LiveAppends}
+use Rattle.flat_code.specs.Safety.{live_of}
 use Rattle.flat_code.specs.Told.{tells}
 use Rattle.flat_code.specs.World.{FWorld, spend}
 use Rattle.rv_machine.specs.State.{Core, register_of}
 use Rattle.rv_machine.specs.Environment.{World}
-use Rattle.rv_machine.specs.Laws.{StepsAdd, CoreStays}
+use Rattle.rv_machine.specs.Laws.{StepsAdd, CoreStays, OthersStay}
 use Rattle.rv_asm.specs.Runs.{gone}
 use Rattle.rv_select.specs.Follows.{StepsLead}
 use Rattle.flat_landing.specs.Laws.{SharedAppends, KeptMore}
 use Rattle.flat_landing.specs.Shared.{shared}
 use Rattle.select_runs.specs.Frame.{IsFrameAt, IsOfFrame, AreOfFrame, StraightRuns}
-use Rattle.select_runs.specs.Scene.{Scene, Frame, Agrees, IsKept}
+use Rattle.select_runs.specs.Scene.{Scene, Frame, AreHigh, Agrees, IsKept}
 
 -- the laws of the layers below
 pub record Laws : Type 0 where
   pub straight : StraightRuns
   pub steps_add : StepsAdd
   pub core_stays : CoreStays
+  pub others : OthersStay
   pub leads : StepsLead
   pub kept_more : KeptMore
   pub events_append : EventsAppend
@@ -34,6 +36,7 @@ pub record Laws : Type 0 where
   pub open_appends : OpenAppends
   pub shared_appends : SharedAppends
   pub tells_append : TellsAppend
+  pub live_appends : LiveAppends
 
 -- ---- Events that flat code does not have
 
@@ -65,14 +68,15 @@ pub record IsLater (old new : FWorld) : Type 0 where
   pub stack : new.stack ≡ old.stack
   pub depth : new.depth ≡ old.depth
   pub input : new.input ≡ old.input
+  pub live : new.live ≡ old.live
   pub told : new.told ≡ old.told
   pub time : old.time ≤ new.time
 
 pub spent : (n : ℕ) (w : FWorld) → IsLater w (spend n w)
-spent n w = record { memory = refl; stack = refl; depth = refl; input = refl; told = refl; time = omega arith }
+spent n w = record { memory = refl; stack = refl; depth = refl; input = refl; live = refl; told = refl; time = omega arith }
 
 pub itself : (w : FWorld) → IsLater w w
-itself w = record { memory = refl; stack = refl; depth = refl; input = refl; told = refl; time = omega arith }
+itself w = record { memory = refl; stack = refl; depth = refl; input = refl; live = refl; told = refl; time = omega arith }
 
 pub kept_later : (s : Scene) (old new : FWorld) → IsLater old new → IsKept s old.told → IsKept s new.told
 kept_later s old new l h = subst (IsKept s) (sym l.told) h
@@ -91,6 +95,11 @@ agrees_later s f old new v l a = record {
   said = a.said ∙ sym (ap tells l.told);
   accesses = a.accesses;
   returns = a.returns;
+  settled = record {
+    live = l.live ∙ a.settled.live ∙ sym (ap (λ t. live_of s.globals (tells t)) l.told);
+    high = subst (λ t. AreHigh (tells t)) (sym l.told) a.settled.high;
+    stack = subst (λ n. n ≤ HEAP_START) (sym l.stack) a.settled.stack;
+  };
 }
 
 -- ---- A core that goes on
@@ -121,4 +130,5 @@ module _ (laws : Laws) (s : Scene) where
         said = laws.shared_appends v.told (map Happens events) ∙ ap (λ l. shared v.told ++ l) quiet.none ∙ append-nil (shared v.told) ∙ a.said;
         accesses = subst (Each IsControlSafe s.globals s.globals) (sym es) ((laws.each_appends s.globals s.globals (events_of v.told) events).1 (a.accesses, quiet.safe _ _));
         returns = ap (open_after []) es ∙ laws.open_appends [] (events_of v.told) events ∙ ap (λ o. open_on o events) a.returns ∙ quiet.stay f.places;
+        settled = a.settled;
       }

@@ -12,6 +12,7 @@ use Rattle.bb_watch.specs.Told.{Happens, events_of}
 use Rattle.bb_watch.specs.Laws.{open_on}
 use Rattle.bb_watch.specs.Safety.{Each, IsControlSafe, open_after}
 use Rattle.size_table.specs.Blocks.{Block}
+use Rattle.flat_code.specs.Safety.{live_of}
 use Rattle.flat_code.specs.Told as flat
 use Rattle.flat_code.specs.Told.{Stamped, tells}
 use Rattle.flat_code.specs.World.{with_word, FWorld, FPoint, point, spend, tell, Ending}
@@ -29,7 +30,7 @@ use Rattle.rv_select.specs.Steps.{plains, line_code, kind_number}
 use Rattle.rv_select.specs.Follows.{IsKnown}
 use Rattle.flat_landing.specs.Lands.{KeepsControl}
 use Rattle.flat_landing.specs.Shared.{shared}
-use Rattle.select_runs.specs.Scene.{Scene, IsScene, after, Frame, HasRoom, held_of, HoldsFrame, Agrees, IsKept, At}
+use Rattle.select_runs.specs.Scene.{Scene, IsScene, after, Frame, HasRoom, held_of, AreHigh, HoldsFrame, Agrees, IsKept, At}
 use Rattle.select_runs.proofs.Straight.{step_acts}
 use Rattle.select_runs.proofs.Agree.{Laws, spent, itself, agrees_later}
 use Rattle.select_runs.proofs.Reach.{Arrives, Finishes, control_of}
@@ -43,6 +44,8 @@ pub record SaysAs (more : List machine.Tell) (new : List Stamped) : Type 0 where
   pub same : shared more ≡ tells new
   pub safe : (live ever : List Block) → Each IsControlSafe live ever (events_of more)
   pub stay : (places : List ℕ) → open_after places (events_of more) ≡ Some places
+  pub live : (blocks : List Block) → live_of blocks (tells new) ≡ blocks
+  pub high : AreHigh (tells new)
 
 -- a machine with other registers, but the same stack number and place of the table, and with more told
 pub record IsMore (v new : World) (more : List machine.Tell) : Type 0 where
@@ -55,6 +58,10 @@ pub record IsMore (v new : World) (more : List machine.Tell) : Type 0 where
 -- a world of flat code with more told, and another rest of the input
 abbrev pub saying : (new : List Stamped) (input : List ℕ) → FWorld → FWorld
 saying new input w = record w { told = w.told ++ new; input = input }
+
+high_append : (xs ys : List flat.Tell) → AreHigh xs → AreHigh ys → AreHigh (xs ++ ys)
+high_append [] ys h g = g
+high_append (x ∷ xs) ys h g = (h.0, high_append xs ys h.1 g)
 
 step_one : (w : World) → steps 1 w ≡ step w
 unfolding steps
@@ -78,6 +85,11 @@ module _ (laws : Laws) (s : Scene) where
         said = ap shared is.told ∙ laws.shared_appends v.told more ∙ ap (λ l. l ++ shared more) a.said ∙ ap (λ l. tells w.told ++ l) says.same ∙ sym (laws.tells_append w.told new);
         accesses = subst (Each IsControlSafe s.globals s.globals) (sym events) ((laws.each_appends s.globals s.globals (events_of v.told) (events_of more)).1 (a.accesses, says.safe _ _));
         returns = ap (open_after []) events ∙ laws.open_appends [] (events_of v.told) (events_of more) ∙ ap (λ o. open_on o (events_of more)) a.returns ∙ says.stay f.places;
+        settled = record {
+          live = a.settled.live ∙ sym (ap (live_of s.globals) (laws.tells_append w.told new) ∙ laws.live_appends s.globals (tells w.told) (tells new) ∙ says.live (live_of s.globals (tells w.told)));
+          high = subst AreHigh (sym (laws.tells_append w.told new)) (high_append (tells w.told) (tells new) a.settled.high says.high);
+          stack = a.settled.stack;
+        };
       }
 
   -- what an environment call does
@@ -210,7 +222,7 @@ module _ (laws : Laws) (s : Scene) (scene : IsScene s) (f : Frame) (room : HasRo
       let x : Stamped = record { time = u.world.time + 5; what = flat.Tell.Output (u.words v % 256) } in
       let w = saying (x ∷ []) u.world.input (spend 5 u.world) in
       let same = called h.2.0 h.2.2.0 (k + 2) (puts v2) h.2.2.1 got.there.at (calls_puts v2 got.seventeen) in
-      let says : SaysAs (machine.Output word ∷ []) (x ∷ []) = record { same = ap (λ y. flat.Tell.Output y ∷ []) byte; safe = λ live ever. tt; stay = λ places. refl } in
+      let says : SaysAs (machine.Output word ∷ []) (x ∷ []) = record { same = ap (λ y. flat.Tell.Output y ∷ []) byte; safe = λ live ever. tt; stay = λ places. refl; live = λ blocks. refl; high = (tt, tt) } in
       let agrees = agrees_more laws s f (spend 5 u.world) v2 (puts v2) (machine.Output word ∷ []) (x ∷ []) u.world.input says
       (more_of (k + 2) word (puts v2) (machine.Output word ∷ []) refl refl refl) got.there.agrees.input got.there.agrees in
       let kept : IsKept s w.told = record { by = laws.kept_more s.start u.world.told x (k + 2 + 1) at.kept.by (omega (arith, at.soon)) (ap (λ y. shared y.told) same ∙ agrees.said) } in
@@ -231,8 +243,8 @@ module _ (laws : Laws) (s : Scene) (scene : IsScene s) (f : Frame) (room : HasRo
       let v = after s k in
       let v' = gets_from [] v in
       let same = called a p k v' part at.at (calls_gets v number ∙ ap (λ l. gets_from l v) (at.agrees.input ∙ is)) in
-      let agrees = agrees_later s f (saying [] u.world.input u.world) u.world v' (record { memory = refl; stack = refl; depth = refl; input = refl; told = sym (append-nil u.world.told); time = omega arith })
-      (agrees_more laws s f u.world v v' [] [] u.world.input (record { same = refl; safe = λ live ever. tt; stay = λ places. refl })
+      let agrees = agrees_later s f (saying [] u.world.input u.world) u.world v' (record { memory = refl; stack = refl; depth = refl; input = refl; live = refl; told = sym (append-nil u.world.told); time = omega arith })
+      (agrees_more laws s f u.world v v' [] [] u.world.input (record { same = refl; safe = λ live ever. tt; stay = λ places. refl; live = λ blocks. refl; high = tt })
       (more_of k 4294967295 v' [] refl refl (sym (append-nil v.told))) at.agrees.input at.agrees) in
       let come = answered a p k 4294967295 u u.world v' same refl at.at.running part (omega (arith, soon)) agrees at.kept at in
       stores_on 10 to all_ones p b u (k + 1) (omega arith) lt come.1 (omega (arith, soon)) rest come.0
@@ -241,8 +253,8 @@ module _ (laws : Laws) (s : Scene) (scene : IsScene s) (f : Frame) (room : HasRo
       let v' = gets_from (byte ∷ bytes) v in
       let w : FWorld = record u.world { input = bytes } in
       let same = called a p k v' part at.at (calls_gets v number ∙ ap (λ l. gets_from l v) (at.agrees.input ∙ is)) in
-      let agrees = agrees_later s f (saying [] bytes u.world) w v' (record { memory = refl; stack = refl; depth = refl; input = refl; told = sym (append-nil u.world.told); time = omega arith })
-      (agrees_more laws s f u.world v v' [] [] bytes (record { same = refl; safe = λ live ever. tt; stay = λ places. refl })
+      let agrees = agrees_later s f (saying [] bytes u.world) w v' (record { memory = refl; stack = refl; depth = refl; input = refl; live = refl; told = sym (append-nil u.world.told); time = omega arith })
+      (agrees_more laws s f u.world v v' [] [] bytes (record { same = refl; safe = λ live ever. tt; stay = λ places. refl; live = λ blocks. refl; high = tt })
       (more_of k byte v' [] refl refl (sym (append-nil v.told))) refl at.agrees) in
       let come = answered a p k byte u w v' same refl at.at.running part (omega (arith, soon)) agrees at.kept at in
       stores_on 10 to byte p b (point u.words w) (k + 1) (omega arith) lt come.1 (omega (arith, soon)) rest come.0
@@ -313,7 +325,7 @@ module _ (laws : Laws) (s : Scene) (scene : IsScene s) (f : Frame) (room : HasRo
       let comes : step v ≡ gone (event ∷ []) d v = acts ∙ ap (λ (es : List Event). gone es d v) (h.1.0.events c at.at.core) in
       let same : after s (k + 1) ≡ gone (event ∷ []) d v = sym (laws.steps_add k 1 s.start) ∙ step_one v ∙ comes in
       let number : product 4096 line / 4096 ≡ line = omega (arith, small) in
-      let says : SaysAs (Happens event ∷ []) (x ∷ []) = record { same = ap (λ y. flat.Tell.Line y ∷ []) number; safe = λ live ever. (tt, tt); stay = λ places. refl } in
+      let says : SaysAs (Happens event ∷ []) (x ∷ []) = record { same = ap (λ y. flat.Tell.Line y ∷ []) number; safe = λ live ever. (tt, tt); stay = λ places. refl; live = λ blocks. refl; high = (tt, tt) } in
       let agrees = agrees_more laws s f (spend 1 u.world) v (gone (event ∷ []) d v) (Happens event ∷ []) (x ∷ []) u.world.input says
       (record { told = refl; memory = refl; eight = refl; table = refl; frames = refl }) at.agrees.input
       (agrees_later s f u.world (spend 1 u.world) v (spent 1 u.world) at.agrees) in

@@ -1,5 +1,5 @@
 -- How a machine follows a function, from its label to the place that it returns to.
-use Rattle.std.proofs.Common.{◌≡◌, ℕ, zero, suc, ◌+◌, ◌*◌, ◌%◌, ◌^◌, ◌<◌, ◌≤◌, ◌⊎◌, inl, inr, List, [], ◌∷◌, ◌++◌, length, Option, Some, None, refl, sym, ap, ◌∙◌, subst, arith, length-append}
+use Rattle.std.proofs.Common.{◌≡◌, ℕ, zero, suc, ◌+◌, ◌*◌, ◌%◌, ◌^◌, ◌<◌, ◌≤◌, ◌⊎◌, inl, inr, List, [], ◌∷◌, length, Option, Some, None, refl, sym, ap, ◌∙◌, subst, arith, length-append}
 use Rattle.std.specs.Prelude.{slice_get, slice_index_or}
 use Rattle.std.proofs.lemmas.Bool.{cases_lt}
 use Rattle.bb_words.specs.Answers.{Answer, and_then}
@@ -7,17 +7,19 @@ use Rattle.flat_code.specs.Code.{FSteps, FFunction}
 use Rattle.flat_code.specs.World.{arguments, FWorld, FPoint, point, Run, Way}
 use Rattle.flat_code.specs.Accounts as accounts
 use Rattle.flat_code.specs.Run.{Calls, act_all, returned}
+use Rattle.flat_verify.specs.Comes.{InSteps}
 use Rattle.flat_verify.specs.Items.{all_steps, items_of}
 use Rattle.rv_asm.specs.declared.parts.Part.TheVariants.{Plain, Label}
 use Rattle.rv_asm.specs.Runs.{IsAt, PartsAt}
-use Rattle.rv_code.specs.declared.instr.Instr.{Instr}
 use Rattle.rv_code.specs.declared.instr.Instr.TheVariants.{Addi}
 use Rattle.rv_machine.specs.State.{Core, register_of}
 use Rattle.rv_select.specs.Layout.{cell}
 use Rattle.rv_select.specs.Selection.{frame_parts, items_parts, items_labels, return_code}
 use Rattle.rv_select.specs.Steps.{plains}
+use Rattle.size_table.specs.declared.memory_map.TheConstants.{HEAP_START}
 use Rattle.size_table.specs.Memory.{word_at}
 use Rattle.select_runs.specs.Fits.{FitItems, FitsFunction, params_of}
+use Rattle.select_runs.specs.InReach.{reached}
 use Rattle.select_runs.specs.Scene.{Scene, IsScene, after, Frame, edge, HasRoom, Agrees, IsKept, At}
 use Rattle.select_runs.proofs.Agree.{Laws, itself}
 use Rattle.select_runs.proofs.Reach.{Comes, ends_from}
@@ -29,17 +31,13 @@ use Rattle.select_runs.proofs.Pushes.{HasPlace, frame_push}
 use Rattle.select_runs.proofs.Calling.{CallComes, IsCallee, CallsRun, calls_follow}
 use Rattle.select_runs.proofs.Functions.{running, leaves_call}
 
-pub plains_join : (s : Scene) (x y : List Instr) (a m b : ℕ) → PartsAt s.text s.all s.labels a (plains x) m → PartsAt s.text s.all s.labels m (plains y) b → PartsAt s.text s.all s.labels a (plains (x ++ y)) b
-plains_join s [] y a m b h rest = subst (λ p. PartsAt s.text s.all s.labels p (plains y) b) h rest
-plains_join s (i ∷ x) y a m b h rest = (h.0, h.1, plains_join s x y h.0 m b h.2 rest)
-
 -- past the arguments all values are 0
 none_given : (args : List ℕ) (v : ℕ) → length args ≤ v → slice_index_or args v 0 ≡ 0
 none_given [] v le = refl
 none_given (x ∷ xs) zero le = absurd (omega (arith, le))
 none_given (x ∷ xs) (suc v) le = none_given xs v (omega (arith, le))
 
-module _ (laws : Laws) (s : Scene) (scene : IsScene s) (functions : List FFunction) (m q : ℕ) (deeper : Calls) (less : q ≤ m) (runs : CallsRun s functions q deeper)
+module _ (laws : Laws) (s : Scene) (scene : IsScene s) (functions : List FFunction) (m q : ℕ) (deeper : Calls) (inside : (function : ℕ) → (args : List ℕ) → FPoint → Type 0) (less : q ≤ m) (runs : CallsRun s functions q deeper inside)
     (values_fit : (number : ℕ) (fn : FFunction) → slice_get functions number ≡ Some fn → fn.values ≤ 255) (items_are : (steps : FSteps) → all_steps 4 (items_of 4 steps) ≡ steps) where
   abbrev params : ℕ → Option ℕ
   params n = params_of (slice_get functions n)
@@ -52,7 +50,7 @@ module _ (laws : Laws) (s : Scene) (scene : IsScene s) (functions : List FFuncti
   back_of u w0 o = and_then (and_then (and_then o returned) (λ word t. Answer.Goes word (point u.words t.world))) (λ word t. Answer.Goes word (point t.words (accounts.leave [] w0 t.world)))
 
   returns_so : (f : Frame) (number : ℕ) (fn : FFunction) (places : List ℕ) (u : FPoint) (w0 : FWorld) (first a b k2 k t time : ℕ) → HasPlace f → HasRoom (running laws s scene f number w0.stack) → FitsFunction params number fn
-      → IsCallee f fn places → w0.depth ≡ length f.entered → w0.stack < 2 ^ 32 → slice_get s.frames number ≡ Some [] → first < scene.count
+      → IsCallee f fn places → w0.depth ≡ length f.entered → w0.stack ≤ HEAP_START → slice_get s.frames number ≡ Some [] → first < scene.count
       → PartsAt s.text s.all s.labels a (Plain (Addi 9 0 0) ∷ Label first ∷ plains (return_code number fn.line f.values)) b
       → k + 1 ≤ k2 → k2 + 10 ≤ time → k2 + 10 + t ≤ k + time → (o : Run Way)
       → Comes s (running laws s scene f number w0.stack) (record { exits = []; back = first }) a None q k2 time o → CallComes s f places u.words (suc q) k t (back_of u w0 o)
@@ -103,16 +101,17 @@ module _ (laws : Laws) (s : Scene) (scene : IsScene s) (functions : List FFuncti
 
   -- A frame was entered: its control frame is pushed, and the body is done.
   pub entered_runs : (f : Frame) (number : ℕ) (fn : FFunction) (places args : List ℕ) (u : FPoint) (w0 : FWorld) (first a a3 a4 b j k t : ℕ) → FitsFunction params number fn → IsCallee f fn places
-      → length args ≡ fn.params → w0.depth ≡ length f.entered → length f.entered < 4096 → w0.stack < 2 ^ 32 → slice_get s.frames number ≡ Some [] → first + (2 + items_labels (items_of 4 fn.body)) ≤ scene.count
+      → length args ≡ fn.params → w0.depth ≡ length f.entered → length f.entered < 4096 → w0.stack ≤ HEAP_START → slice_get s.frames number ≡ Some [] → first + (2 + items_labels (items_of 4 fn.body)) ≤ scene.count
       → PartsAt s.text s.all s.labels a (frame_parts (first + 1) fn.params fn.values) a3
       → PartsAt s.text s.all s.labels a3 (items_parts 4 first None [] (first + 2) (items_of 4 fn.body)) a4
       → PartsAt s.text s.all s.labels a4 (Plain (Addi 9 0 0) ∷ Label first ∷ plains (return_code number fn.line fn.values)) b
       → (base : ℕ) → IsAt s.text a (after s j) → register_of (core j) 2 ≡ edge f → register_of (core j) 1 ≡ f.back
       → ((i : ℕ) → i < length args → register_of (core j) (18 + i) ≡ slice_index_or args i 0)
       → (let w1 = record w0 { depth = w0.depth + 1; stack = base } in
-      Agrees s (running laws s scene f number w0.stack) w1 (after s j) → IsKept s w1.told → k + 1 ≤ j → j + 32 + 2 * fn.values ≤ w0.time → j + 32 + 2 * fn.values + t ≤ k + w0.time
+      InSteps 4 deeper m fn.frame inside (reached fn.frame) fn.body 0 (point (arguments args) w1)
+      → Agrees s (running laws s scene f number w0.stack) w1 (after s j) → IsKept s w1.told → k + 1 ≤ j → j + 32 + 2 * fn.values ≤ w0.time → j + 32 + 2 * fn.values + t ≤ k + w0.time
       → CallComes s f places u.words (suc q) k t (back_of u w0 (act_all 4 deeper m fn.frame fn.body (point (arguments args) w1))))
-  entered_runs f number fn places args u w0 first a a3 a4 b j k t fits callee given_all deep few_calls small layout labels pushes body ends base at two one given agrees kept some soon near =
+  entered_runs f number fn places args u w0 first a a3 a4 b j k t fits callee given_all deep few_calls small layout labels pushes body ends base at two one given reach agrees kept some soon near =
       let g = running laws s scene f number w0.stack in
       let w1 = record w0 { depth = w0.depth + 1; stack = base } in
       let values = callee.values in
@@ -138,9 +137,10 @@ module _ (laws : Laws) (s : Scene) (scene : IsScene s) (functions : List FFuncti
         soon = omega (arith, taken, soon, values);
         kept = kept;
       } in
-      let follow = calls_follow laws s scene g room functions 4 m fn.frame q deeper values_fit runs in
+      let follow = calls_follow laws s scene g room functions 4 m fn.frame q deeper inside values_fit runs in
       let fit_items : FitItems f.values params 0 (items_of 4 fn.body) = subst (λ v. FitItems v params 0 (items_of 4 fn.body)) (sym values) fits.items in
-      let ran = items_run laws s scene g room 4 m fn.frame q deeper params less follow (items_of 4 fn.body) (record { exits = []; back = first }) (first + 2) a3 a4 None u1 k2 fit_items (omega (arith, labels)) body here in
+      let ran = items_run laws s scene g room 4 m fn.frame q deeper inside params less refl follow (items_of 4 fn.body) (record { exits = []; back = first }) (first + 2) a3 a4 0 None u1 k2 fit_items
+      (subst (λ b. InSteps 4 deeper m fn.frame inside (reached fn.frame) b 0 u1) (sym (items_are fn.body)) reach) (omega (arith, labels)) body here in
       let came = subst (λ b. Comes s g (record { exits = []; back = first }) a4 None q k2 w0.time (act_all 4 deeper m fn.frame b u1)) (items_are fn.body) ran in
       returns_so f number fn places u w0 first a4 b k2 k t w0.time place_f room fits callee deep small layout (omega (arith, labels))
       (subst (λ v. PartsAt s.text s.all s.labels a4 (Plain (Addi 9 0 0) ∷ Label first ∷ plains (return_code number fn.line v)) b) (sym values) ends)

@@ -78,9 +78,9 @@ abbrev pub HasTime : FWorld → (k t : ℕ) → Type 0
 HasTime w k t = (k ≤ w.time) × (t ≤ w.time) × (nat_le MOST_CALLS w.depth ≡ true → (k + 7 ≤ w.time) × (t + 7 ≤ w.time))
 
 -- the calls of functions are followed
-pub record CallsRun (s : Scene) (functions : List FFunction) (q : ℕ) (call : Calls) : Type 0 where
+pub record CallsRun (s : Scene) (functions : List FFunction) (q : ℕ) (call : Calls) (inside : (function : ℕ) → (args : List ℕ) → FPoint → Type 0) : Type 0 where
   pub run : (f : Frame) (number : ℕ) (fn : FFunction) (places args : List ℕ) (u : FPoint) (k t : ℕ) → slice_get functions number ≡ Some fn → length args ≡ fn.params
-      → IsCallee f fn places → HasTime u.world k t → IsCalled s f number args u.world k → CallComes s f places u.words q k t (call number args u)
+      → IsCallee f fn places → HasTime u.world k t → inside number args u → IsCalled s f number args u.world k → CallComes s f places u.words q k t (call number args u)
 
 -- ---- Arguments
 
@@ -204,6 +204,7 @@ module _ (laws : Laws) (s : Scene) (scene : IsScene s) (f : Frame) (room : HasRo
                 ((laws.each_appends s.globals s.globals (events_of v.told) (event ∷ [])).1 (a0.accesses, (tt, tt))));
             returns = ap (λ x. open_after [] (events_of x.told)) same ∙ ap (open_after []) events ∙ laws.open_appends [] (events_of v.told) (event ∷ [])
                 ∙ ap (λ o. open_on o (event ∷ [])) a0.returns ∙ ap (λ x. Some (x ∷ f.places)) four;
+            settled = a0.settled;
           };
           kept = at.kept;
         },
@@ -246,6 +247,7 @@ module _ (laws : Laws) (s : Scene) (scene : IsScene s) (f : Frame) (room : HasRo
           said = a0.said;
           accesses = a0.accesses;
           returns = a0.returns;
+          settled = a0.settled;
         };
         soon = soon;
         kept = an.kept;
@@ -281,14 +283,15 @@ module _ (laws : Laws) (s : Scene) (scene : IsScene s) (f : Frame) (room : HasRo
     opened = refl;
   }
 
-  pub calls_follow : (g m frame q : ℕ) (call : Calls) → ((number : ℕ) (fn : FFunction) → slice_get functions number ≡ Some fn → fn.values ≤ 255)
-      → CallsRun s functions q call → CallsFollow s f g m frame q call (λ n. params_of (slice_get functions n))
-  calls_follow g m frame q call few runs = record { follow = λ to function args r a b known u k lt fits count small parts at. one to function args r a b known u k lt fits count small parts at }
+  pub calls_follow : (g m frame q : ℕ) (call : Calls) (inside : (function : ℕ) → (args : List ℕ) → FPoint → Type 0) → ((number : ℕ) (fn : FFunction) → slice_get functions number ≡ Some fn → fn.values ≤ 255)
+      → CallsRun s functions q call inside → CallsFollow s f g m frame q call inside (λ n. params_of (slice_get functions n))
+  calls_follow g m frame q call inside few runs = record { follow = λ to function args r a b known u k lt fits count small parts reach at. one to function args r a b known u k lt fits count small parts reach at }
     where
       one : (to function : ℕ) (args : List ℕ) (r : Around) (a b : ℕ) (known : Option ℕ) (u : FPoint) (k : ℕ) → to < f.values → AreValues f.values args
-          → params_of (slice_get functions function) ≡ Some (length args) → length args ≤ 8 → PartsAt s.text s.all s.labels a (call_parts to function args) b → At s f a known u k
+          → params_of (slice_get functions function) ≡ Some (length args) → length args ≤ 8 → PartsAt s.text s.all s.labels a (call_parts to function args) b
+          → inside function (map u.words args) (point u.words (spend 48 u.world)) → At s f a known u k
           → Comes s f r b None q k u.world.time (act g call m frame (FStep.Call to function args) (point u.words (spend 48 u.world)))
-      one to function args r a b known u k lt fits count small parts at =
+      one to function args r a b known u k lt fits count small parts reach at =
           let code = arguments_code 18 args in
           let two = parts_split s (plains code ++ Jump 1 function ∷ []) (plains (store 9 to ∷ [])) a b parts in
           let split = parts_split s (plains code) (Jump 1 function ∷ []) a two.0 two.1 in
@@ -311,5 +314,5 @@ module _ (laws : Laws) (s : Scene) (scene : IsScene s) (f : Frame) (room : HasRo
           let go = calls_it fn function split.0 two.0 (map u.words args) v j few_values jump given (omega (arith, small, mapped_length u.words args)) done.there in
           let k1 = j + go.0 in
           let came = runs.run (callee fn two.0 j) function fn f.places (map u.words args) v k1 (u.world.time + 20) is.1 (mapped_length u.words args ∙ sym is.2) (is_callee fn two.0 j split.0 function few_values (place_aligned s scene split.0 j done.there.at) jump)
-          (omega (arith, go.2, size, small, at.soon), omega arith, λ deep. (omega (arith, go.2, size, small, at.soon), omega arith)) go.3 in
+          (omega (arith, go.2, size, small, at.soon), omega arith, λ deep. (omega (arith, go.2, size, small, at.soon), omega arith)) reach go.3 in
           used fn to split.0 two.0 b k j k1 r q v u.world.time (call function (map u.words args) v) few_values lt at.soon (omega arith) (omega (arith, go.2, size, small)) two.2 done.there came

@@ -7,7 +7,7 @@ use Rattle.bb_words.specs.Numbers.{sum}
 use Rattle.bb_watch.specs.declared.event.Event.{Event}
 use Rattle.bb_watch.specs.Told.{Happens, events_of}
 use Rattle.bb_watch.specs.Safety.{Each, IsControlSafe, open_after}
-use Rattle.size_table.specs.declared.memory_map.TheConstants.{GLOBALS_START, STACK_START, MOST_CALLS}
+use Rattle.size_table.specs.declared.memory_map.TheConstants.{GLOBALS_START, STACK_START, MOST_CALLS, HEAP_START}
 use Rattle.flat_code.specs.World.{FWorld}
 use Rattle.rv_asm.specs.declared.parts.Part.TheVariants.{Plain}
 use Rattle.rv_asm.specs.Runs.{IsAt, PartAt, PartsAt, gone}
@@ -157,8 +157,8 @@ module _ (laws : Laws) (s : Scene) (scene : IsScene s) where
 
   -- a machine that has entered or left agrees with flat code that has
   pub agrees_reframed : (f : Frame) (entered : List Entered) (w : FWorld) (depth base b k : ℕ) (frames : Frames) → frames.stack ≡ base → frames.layouts ≡ s.frames → frames.entered ≡ entered
-      → depth ≡ length entered → Reframed b base frames k → Agrees s f w (after s k) → Agrees s (record f { entered = entered }) (record w { depth = depth; stack = base }) (after s (k + 1 + 1))
-  agrees_reframed f entered w depth base b k frames stack layouts same_entered deep r a = record {
+      → depth ≡ length entered → base ≤ HEAP_START → Reframed b base frames k → Agrees s f w (after s k) → Agrees s (record f { entered = entered }) (record w { depth = depth; stack = base }) (after s (k + 1 + 1))
+  agrees_reframed f entered w depth base b k frames stack layouts same_entered deep low r a = record {
     memory = λ at low high. ap (λ m. slice_index m at) r.memory ∙ a.memory at low high;
     above = λ at low high. ap (λ m. slice_index m at) r.memory ∙ a.above at low high;
     stack = r.eight;
@@ -171,6 +171,7 @@ module _ (laws : Laws) (s : Scene) (scene : IsScene s) where
     said = ap shared r.told ∙ a.said;
     accesses = subst (λ l. Each IsControlSafe s.globals s.globals (events_of l)) (sym r.told) a.accesses;
     returns = ap (λ l. open_after [] (events_of l)) r.told ∙ a.returns;
+    settled = record { live = a.settled.live; high = a.settled.high; stack = low };
   }
 
 -- ---- Lists of calls

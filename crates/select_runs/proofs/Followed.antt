@@ -1,16 +1,18 @@
 -- A machine that follows calls with so many nested follows those with one more.
-use Rattle.std.proofs.Common.{◌≡◌, ◌≢◌, ℕ, suc, ◌+◌, ◌^◌, ◌<◌, ◌≤◌, ◌⊎◌, inl, inr, Bool, true, false, if◌then◌else◌, List, [], ◌∷◌, ◌++◌, length, Some, None, refl, sym, ap, ◌∙◌, subst, arith, length-append}
+use Rattle.std.proofs.Common.{◌≡◌, ◌≢◌, ℕ, suc, ◌+◌, ◌<◌, ◌≤◌, ◌⊎◌, inl, inr, Bool, true, false, if◌then◌else◌, List, [], ◌∷◌, ◌++◌, length, Some, None, refl, sym, ap, ◌∙◌, subst, arith, length-append}
 use Rattle.std.specs.Prelude.{nat_lt, nat_le, slice_get, slice_index_or}
 use Rattle.std.proofs.lemmas.List.{append-nil}
 use Rattle.std.proofs.lemmas.Bool.{ne_eqb, le-leb, cases_lt}
-use Rattle.bb_words.specs.Answers.{Answer, and_then}
+use Rattle.bb_words.specs.Answers.{Answer, and_then, either}
 use Rattle.bb_words.specs.declared.kinds.ReportKind.TheVariants as report
-use Rattle.size_table.specs.declared.memory_map.TheConstants.{STACK_START, MOST_CALLS}
+use Rattle.size_table.specs.declared.memory_map.TheConstants.{STACK_START, HEAP_START, MOST_CALLS}
 use Rattle.flat_code.specs.Code.{FSteps, FFunction}
-use Rattle.flat_code.specs.World.{FWorld, FPoint, point, spend, choose, Ending}
+use Rattle.flat_code.specs.World.{arguments, FWorld, FPoint, point, spend, choose, Ending}
 use Rattle.flat_code.specs.Accounts as accounts
 use Rattle.flat_code.specs.Run.{Calls, act_all, body_with, framed_if, counted, library, defined, call_one}
 use Rattle.flat_code.specs.Time.{call_charge}
+use Rattle.flat_verify.specs.Discipline.{frame_in}
+use Rattle.flat_verify.specs.Comes.{InSteps, nothing, InDefined}
 use Rattle.flat_verify.specs.Items.{all_steps, items_of}
 use Rattle.rv_asm.specs.declared.parts.Part.TheVariants.{Plain, Label}
 use Rattle.rv_asm.specs.Runs.{IsAt, PartAt, PartsAt}
@@ -26,25 +28,27 @@ use Rattle.rv_select.specs.Selection.{frame_parts, items_parts, items_labels, en
 use Rattle.rv_select.specs.Steps.{plains}
 use Rattle.select_runs.specs.Frame.{IsFrameAt}
 use Rattle.select_runs.specs.Fits.{FitsFunction, params_of}
+use Rattle.select_runs.specs.InReach.{reached, in_reach}
 use Rattle.select_runs.specs.Scene.{Scene, IsScene, after, Frame, edge, Agrees}
 use Rattle.select_runs.proofs.Agree.{Laws, spent, agrees_later}
 use Rattle.select_runs.proofs.Moves.{apart}
-use Rattle.select_runs.proofs.Pieces.{parts_split}
+use Rattle.select_runs.proofs.Pieces.{parts_split, plains_split, plains_join}
 use Rattle.select_runs.proofs.Raw.{core_at}
 use Rattle.select_runs.proofs.Calling.{IsCalled, CallComes, IsCallee, HasTime, CallsRun}
 use Rattle.select_runs.proofs.Entering.{after_enter, enters_so, too_deep, no_room, has_entered, Reframed, reframed, agrees_reframed}
-use Rattle.select_runs.proofs.Functions.{FunctionAt, plains_split, Ready, prepares, refuses, running}
-use Rattle.select_runs.proofs.Bodies.{plains_join, entered_runs}
+use Rattle.select_runs.proofs.Functions.{FunctionAt, Ready, prepares, refuses, running}
+use Rattle.select_runs.proofs.Bodies.{entered_runs}
 
-module _ (laws : Laws) (s : Scene) (scene : IsScene s) (functions : List FFunction) (m q : ℕ) (deeper : Calls) (less : q ≤ m) (runs : CallsRun s functions q deeper)
+module _ (laws : Laws) (s : Scene) (scene : IsScene s) (functions : List FFunction) (m q : ℕ) (deeper : Calls) (inside : (function : ℕ) → (args : List ℕ) → FPoint → Type 0) (less : q ≤ m) (runs : CallsRun s functions q deeper inside)
     (values_fit : (number : ℕ) (fn : FFunction) → slice_get functions number ≡ Some fn → fn.values ≤ 255) (items_are : (steps : FSteps) → all_steps 4 (items_of 4 steps) ≡ steps) where
   abbrev core : ℕ → Core
   core k = core_at laws s scene k
 
-  pub function_runs : (f : Frame) (number : ℕ) (fn : FFunction) (places args : List ℕ) (u : FPoint) (k t : ℕ) → FunctionAt s scene number fn → FitsFunction (λ n. params_of (slice_get functions n)) number fn
-      → length args ≡ fn.params → IsCallee f fn places → HasTime u.world k t → IsCalled s f number args u.world k
+  pub function_runs : (f : Frame) (number : ℕ) (fn : FFunction) (places args : List ℕ) (u : FPoint) (k t : ℕ) → slice_get functions number ≡ Some fn → FunctionAt s scene number fn → FitsFunction (λ n. params_of (slice_get functions n)) number fn
+      → length args ≡ fn.params → IsCallee f fn places → HasTime u.world k t
+      → either (nat_le MOST_CALLS u.world.depth) nothing (InDefined 4 s.frames m (in_reach functions) deeper inside number fn args (slice_get s.frames number)) u → IsCalled s f number args u.world k
       → CallComes s f places u.words (suc q) k t (call_one 4 s.frames m functions deeper (Some fn) number args u)
-  function_runs f number fn places args u k t here fits given_all callee time called =
+  function_runs f number fn places args u k t own here fits given_all callee time reach called =
       let line = fn.line in
       let n = here.first in
       let p1 = Label number ∷ plains (enter_code number line) in
@@ -73,16 +77,16 @@ module _ (laws : Laws) (s : Scene) (scene : IsScene s) (functions : List FFuncti
       let ecall : PartAt s.text s.all s.labels p (Plain Ecall) e1.0 = subst (λ x. PartAt s.text s.all s.labels p (Plain Ecall) x) (sym e2.2.2.2) e2.2.2.1 in
       let copy : PartAt s.text s.all s.labels e1.0 (Plain (Addi 8 10 0)) d2.0 = subst (λ x. PartAt s.text s.all s.labels e1.0 (Plain (Addi 8 10 0)) x) (sym e1.2.2) e1.2.1 in
       subst (λ b. CallComes s f places u.words (suc q) k t (choose b (library 4 s.frames m fn args) (counted line (defined 4 s.frames m deeper number fn args)) u)) (sym (ne_eqb line 0 some))
-      (by_depth d2.0 d3.0 d4.0 p e1.0 n ready ecall copy d2.2 d3.2 d4.2 here.labels here.layout (nat_le MOST_CALLS u.world.depth) refl)
+      (by_depth d2.0 d3.0 d4.0 p e1.0 n ready ecall copy d2.2 d3.2 d4.2 here.labels here.layout (nat_le MOST_CALLS u.world.depth) refl reach)
     where
       by_depth : (a a3 a4 p pe first : ℕ) → Ready laws s scene f number fn.line p k → PartAt s.text s.all s.labels p (Plain Ecall) pe → PartAt s.text s.all s.labels pe (Plain (Addi 8 10 0)) a
           → PartsAt s.text s.all s.labels a (frame_parts (first + 1) fn.params fn.values) a3
           → PartsAt s.text s.all s.labels a3 (items_parts 4 first None [] (first + 2) (items_of 4 fn.body)) a4
           → PartsAt s.text s.all s.labels a4 (Plain (Addi 9 0 0) ∷ Label first ∷ plains (return_code number fn.line fn.values)) here.to
           → first + (2 + items_labels (items_of 4 fn.body)) ≤ scene.count → slice_get s.frames number ≡ Some []
-          → (deep : Bool) → nat_le MOST_CALLS u.world.depth ≡ deep
+          → (deep : Bool) → nat_le MOST_CALLS u.world.depth ≡ deep → either deep nothing (InDefined 4 s.frames m (in_reach functions) deeper inside number fn args (slice_get s.frames number)) u
           → CallComes s f places u.words (suc q) k t (choose deep (λ v. Answer.Ends (Ending.Reported report.Depth fn.line) v) (defined 4 s.frames m deeper number fn args) u)
-      by_depth a a3 a4 p pe first ready ecall copy pushes body ends labels layout true deep =
+      by_depth a a3 a4 p pe first ready ecall copy pushes body ends labels layout true deep reach =
           let j = k + ready.count in
           let v = after s j in
           let agrees = ready.agrees u.world called.agrees in
@@ -93,10 +97,10 @@ module _ (laws : Laws) (s : Scene) (scene : IsScene s) (functions : List FFuncti
           let near = (time.2 deep).1 in
           refuses laws s scene f report.Depth fn.line p pe k j t u u.world (after_enter x v) ecall ready.at so (ap (λ y. Some (Reported report.Depth y)) ready.eleven) (append-nil v.told) agrees called.kept refl
           (omega arith) (omega (arith, near, ready.few))
-      by_depth a a3 a4 p pe first ready ecall copy pushes body ends labels layout false deep =
+      by_depth a a3 a4 p pe first ready ecall copy pushes body ends labels layout false deep reach =
           let u0 = point u.words (spend (call_charge fn) u.world) in
           subst (λ o. CallComes s f places u.words (suc q) k t (framed_if 4 fn.line (act_all 4 deeper m fn.frame fn.body) args o u0)) (sym layout)
-          (by_room (nat_lt (accounts.stack_under 4 u.world.stack []) STACK_START) refl)
+          (by_room (nat_lt (accounts.stack_under 4 u.world.stack []) STACK_START) refl (subst (λ o. InDefined 4 s.frames m (in_reach functions) deeper inside number fn args o u) layout reach))
         where
           j : ℕ
           j = k + ready.count
@@ -126,17 +130,18 @@ module _ (laws : Laws) (s : Scene) (scene : IsScene s) (functions : List FFuncti
               ∙ called.given i lt
 
           by_room : (low : Bool) → nat_lt (accounts.stack_under 4 u.world.stack []) STACK_START ≡ low
+              → either low nothing (λ z. InSteps 4 deeper m fn.frame inside (in_reach functions number) fn.body 0 (point (arguments args) (accounts.enter (accounts.stack_under 4 z.world.stack []) [] z.world))) (point u.words w0)
               → CallComes s f places u.words (suc q) k t (choose low (λ z. Answer.Ends (Ending.Reported report.Stack fn.line) z)
               (λ z. and_then (body_with (act_all 4 deeper m fn.frame fn.body) args (point z.words (accounts.enter (accounts.stack_under 4 z.world.stack []) [] z.world)))
               (λ word x. Answer.Goes word (point x.words (accounts.leave [] z.world x.world)))) (point u.words (spend (call_charge fn) u.world)))
-          by_room true is =
+          by_room true is body_reach =
               let stack : nat_lt (stack_under v.machine.frames.stack []) STACK_START ≡ true = ap (λ x. nat_lt (stack_under x []) STACK_START) agrees.number ∙ is in
               let x = refused NoRoom v.machine.frames v.machine.core.memory in
               let so = enters_so v number x ready.seventeen ready.ten (ap (λ l. slice_get l number) agrees.layouts ∙ layout) (no_room number v.machine.frames v.machine.core.memory none_deep stack) in
               let early = time.1 in
               refuses laws s scene f report.Stack fn.line p pe k j t (point u.words w0) u.world (after_enter x v) ecall ready.at so (ap (λ y. Some (Reported report.Stack y)) ready.eleven) (append-nil v.told) agrees called.kept refl
               (omega arith) (omega (arith, early, ready.few))
-          by_room false is =
+          by_room false is body_reach =
               let frames = v.machine.frames in
               let memory = v.machine.core.memory in
               let stack : nat_lt (stack_under frames.stack []) STACK_START ≡ false = ap (λ x. nat_lt (stack_under x []) STACK_START) agrees.number ∙ is in
@@ -145,7 +150,7 @@ module _ (laws : Laws) (s : Scene) (scene : IsScene s) (functions : List FFuncti
               let same_base : base ≡ flat_base = ap (λ x. stack_under x []) agrees.number in
               let x = entered_at base number [] frames memory in
               let so = enters_so v number x ready.seventeen ready.ten (ap (λ l. slice_get l number) agrees.layouts ∙ layout) (has_entered number frames memory none_deep stack) in
-              let eight : u.world.stack < 2 ^ 32 = subst (λ (n : ℕ). n < 2 ^ 32) agrees.stack ((scene.form j).words 8 0 (let z = (scene.form j).registers in omega (arith, z))) in
+              let eight : u.world.stack ≤ HEAP_START = agrees.settled.stack in
               let number_is = agrees.number in
               let r = reframed laws s scene p pe a base j x.frames (after_enter x v) ecall copy ready.at (omega (arith, eight, number_is)) so refl refl ready.at.running refl (append-nil v.told) in
               let call : Entered = record { frame = number; back = u.world.stack } in
@@ -154,14 +159,15 @@ module _ (laws : Laws) (s : Scene) (scene : IsScene s) (functions : List FFuncti
               ap (λ l. l ++ (record { frame = number; back = frames.stack }) ∷ []) agrees.entered ∙ ap (λ y. f.entered ++ (record { frame = number; back = y }) ∷ []) agrees.number in
               let depth = agrees.depth in
               let deeper_by : u.world.depth + 1 ≡ length entered = omega (arith, depth, length-append f.entered (call ∷ [])) in
-              let now = agrees_reframed laws s scene f entered w0 (u.world.depth + 1) base a j x.frames refl agrees.layouts more deeper_by r (agrees_later s f u.world w0 v (spent (call_charge fn) u.world) agrees) in
+              let now = agrees_reframed laws s scene f entered w0 (u.world.depth + 1) base a j x.frames refl agrees.layouts more deeper_by (omega (arith, eight, number_is)) r (agrees_later s f u.world w0 v (spent (call_charge fn) u.world) agrees) in
               let few_calls = few_by (cases_lt u.world.depth 4096) in
               let early = time.0 in
               let late = time.1 in
-              entered_runs laws s scene functions m q deeper less runs values_fit items_are f number fn places args u w0 first a a3 a4 here.to (j + 1 + 1) k t fits callee given_all depth
+              entered_runs laws s scene functions m q deeper inside less runs values_fit items_are f number fn places args u w0 first a a3 a4 here.to (j + 1 + 1) k t fits callee given_all depth
               (omega (arith, few_calls, depth)) eight layout labels pushes body ends flat_base r.at
               (r.others 2 (apart 2 8 refl) (apart 2 10 refl) ∙ ready.others 2 (omega arith) (apart 2 10 refl) (apart 2 11 refl) (apart 2 17 refl) ∙ called.base)
               (r.others 1 (apart 1 8 refl) (apart 1 10 refl) ∙ ready.others 1 (omega arith) (apart 1 10 refl) (apart 1 11 refl) (apart 1 17 refl) ∙ called.from)
               (λ i lt. given_on base x.frames r i lt)
+              (subst (λ o. InSteps 4 deeper m fn.frame inside (reached (frame_in o)) fn.body 0 (point (arguments args) (record w0 { depth = u.world.depth + 1; stack = flat_base }))) own body_reach)
               (subst (λ b. Agrees s (running laws s scene f number u.world.stack) (record w0 { depth = u.world.depth + 1; stack = b }) (after s (j + 1 + 1))) same_base now) called.kept
               (omega arith) (omega (arith, early, ready.few)) (omega (arith, late, ready.few))

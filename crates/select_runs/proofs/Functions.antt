@@ -10,13 +10,12 @@ use Rattle.bb_watch.specs.declared.event.Event.TheVariants.{Return}
 use Rattle.bb_watch.specs.Told.{Happens, events_of}
 use Rattle.bb_watch.specs.Laws.{open_on}
 use Rattle.bb_watch.specs.Safety.{Each, IsControlSafe, open_after}
-use Rattle.size_table.specs.declared.memory_map.TheConstants.{GLOBALS_START}
+use Rattle.size_table.specs.declared.memory_map.TheConstants.{GLOBALS_START, HEAP_START}
 use Rattle.flat_code.specs.Told.{tells}
 use Rattle.flat_code.specs.Code.{FFunction}
 use Rattle.flat_code.specs.World.{FWorld, FPoint, Ending}
 use Rattle.rv_asm.specs.declared.parts.Part.TheVariants.{Plain}
 use Rattle.rv_asm.specs.Runs.{IsAt, PartAt, PartsAt, gone}
-use Rattle.rv_code.specs.declared.instr.Instr.{Instr}
 use Rattle.rv_code.specs.declared.instr.Instr.TheVariants.{Addi, Jalr, Ecall}
 use Rattle.rv_machine.specs.declared.frames.Entered.{Entered}
 use Rattle.rv_machine.specs.declared.stop.Halt.TheVariants.{Reported}
@@ -36,18 +35,12 @@ use Rattle.select_runs.proofs.Straight.{step_acts}
 use Rattle.select_runs.proofs.Agree.{Laws}
 use Rattle.select_runs.proofs.Reach.{Finishes, control_of}
 use Rattle.select_runs.proofs.Moves.{apart, cell_is, one_step}
-use Rattle.select_runs.proofs.Pieces.{is_cell}
+use Rattle.select_runs.proofs.Pieces.{is_cell, plains_split}
 use Rattle.select_runs.proofs.Raw.{core_at, runs_straight, shifts}
 use Rattle.select_runs.proofs.Pushes.{HasPlace}
 use Rattle.select_runs.proofs.Calling.{returned_to}
 use Rattle.select_runs.proofs.Entering.{after_leave, leaves_so, has_left, sets, reframed, agrees_reframed, last_of, front_of}
 use Rattle.select_runs.proofs.Asking.{asks}
-
--- where the instructions of one list end and those of the other begin
-pub plains_split : (s : Scene) (x y : List Instr) (a b : ℕ) → PartsAt s.text s.all s.labels a (plains (x ++ y)) b
-    → (m : ℕ) × PartsAt s.text s.all s.labels a (plains x) m × PartsAt s.text s.all s.labels m (plains y) b
-plains_split s [] y a b h = (a, refl, h)
-plains_split s (i ∷ x) y a b h = let rest = plains_split s x y h.0 b h.2 in (rest.0, (h.0, h.1, rest.1), rest.2)
 
 -- a function stands at its label
 pub record FunctionAt (s : Scene) (scene : IsScene s) (number : ℕ) (fn : FFunction) : Type 0 where
@@ -184,6 +177,7 @@ module _ (laws : Laws) (s : Scene) (scene : IsScene s) (f : Frame) where
               ((laws.each_appends s.globals s.globals (events_of v.told) (event ∷ [])).1 (a0.accesses, (tt, tt))));
           returns = ap (λ x. open_after [] (events_of x.told)) same ∙ ap (open_after []) events ∙ laws.open_appends [] (events_of v.told) (event ∷ [])
               ∙ ap (λ o. open_on o (event ∷ [])) (a0.returns ∙ ap Some opened) ∙ ap (λ t. if t then Some places else None) (eq-eqb f.back f.back refl);
+          settled = a0.settled;
         };
       }
     where
@@ -203,7 +197,7 @@ module _ (laws : Laws) (s : Scene) (scene : IsScene s) (f : Frame) where
   abbrev pub running : (number stack : ℕ) → Frame
   running number stack = record f { entered = f.entered ++ (record { frame = number; back = stack }) ∷ [] }
 
-  pub leaves_call : (number line stack depth a b k word : ℕ) (places : List ℕ) (u : FPoint) → HasPlace f → 1 ≤ line → number < 2 ^ 32 → stack < 2 ^ 32 → depth ≡ length f.entered
+  pub leaves_call : (number line stack depth a b k word : ℕ) (places : List ℕ) (u : FPoint) → HasPlace f → 1 ≤ line → number < 2 ^ 32 → stack ≤ HEAP_START → depth ≡ length f.entered
       → slice_get s.frames number ≡ Some [] → f.places ≡ f.back ∷ places → f.back % 4 ≡ 0 → PartsAt s.text s.all s.labels a (plains (return_code number line f.values)) b
       → register_of (core k) 9 ≡ word → At s (running number stack) a None u k → Left places word (record u.world { depth = depth; stack = stack }) k
   leaves_call number line stack depth a b k word places u place some small small_stack deep layout opened aligned parts nine at =
@@ -248,11 +242,11 @@ module _ (laws : Laws) (s : Scene) (scene : IsScene s) (f : Frame) where
       let x = left_to stack [] frames memory in
       let so = leaves_so v number call x four.is (four.others 10 (omega arith) (apart 10 17 refl) ∙ three.is) (ap (λ l. slice_get l number) agrees4.layouts ∙ layout)
       (ap (λ l. slice_get l (length l - 1)) agrees4.entered ∙ last_of f.entered call) (has_left number stack frames memory) in
-      let five = reframed laws s scene asked.2.0 copied.0 last.0 stack k4 x.frames (after_leave x v) ecall copy four.at small_stack so refl refl four.at.running refl (append-nil v.told) in
+      let five = reframed laws s scene asked.2.0 copied.0 last.0 stack k4 x.frames (after_leave x v) ecall copy four.at (omega (arith, small_stack)) so refl refl four.at.running refl (append-nil v.told) in
       let k5 = k4 + 1 + 1 in
       let w = record u.world { depth = depth; stack = stack } in
       let agrees5 : Agrees s f w (after s k5) = agrees_reframed laws s scene g f.entered u.world depth stack last.0 k4 x.frames refl agrees4.layouts
-      (ap (λ l. take (length l - 1) l) agrees4.entered ∙ front_of f.entered call) deep five agrees4 in
+      (ap (λ l. take (length l - 1) l) agrees4.entered ∙ front_of f.entered call) deep small_stack five agrees4 in
       let jalr : PartAt s.text s.all s.labels last.0 (Plain (Jalr 0 1 0)) b = subst (λ y. PartAt s.text s.all s.labels last.0 (Plain (Jalr 0 1 0)) y) (sym last.2.2) last.2.1 in
       let back5 : register_of (core k5) 1 ≡ f.back = five.others 1 (apart 1 8 refl) (apart 1 10 refl) ∙ four.others 1 (omega arith) (apart 1 17 refl) ∙ three.others 1 (omega arith) (apart 1 10 refl)
       ∙ two.registers 1 (apart 1 2 refl) ∙ back1 in

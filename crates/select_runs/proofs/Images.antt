@@ -10,7 +10,7 @@ use Rattle.flat_code.specs.Run.{flat_run}
 use Rattle.rv_image.specs.declared.image.Image.{Image}
 use Rattle.rv_machine.specs.Environment.{World}
 use Rattle.rv_machine.specs.Formed.{IsByte}
-use Rattle.rv_machine.specs.Laws.{RunsAreFormed, TextStands, PcIsAligned, MemoryStarts}
+use Rattle.rv_machine.specs.Laws.{RunsAreFormed, TextStands, PcIsAligned, RunsHaveTable, MemoryStarts}
 use Rattle.rv_machine.specs.Live.{global_blocks}
 use Rattle.rv_machine.specs.Machine.{steps, machine_after}
 use Rattle.rv_machine.specs.Start.{start, start_memory}
@@ -19,7 +19,8 @@ use Rattle.rv_select.specs.Selection.{functions_labels, selected}
 use Rattle.flat_landing.specs.Lands.{outcome_of, RunsAs}
 use Rattle.flat_landing.specs.Laws.{LandingsRun}
 use Rattle.select_runs.specs.ImageOf.{IsImageOf}
-use Rattle.select_runs.specs.Laws.{IsProgramIn, NumbersLand, SelectionRuns}
+use Rattle.select_runs.specs.InReach.{RunsInReach}
+use Rattle.select_runs.specs.Laws.{IsProgramIn, ProgramsLand, SelectionRuns}
 use Rattle.select_runs.specs.Scene.{Scene, IsScene, StartsAs}
 
 -- the laws of an image's runs, of labels and of landings
@@ -27,9 +28,10 @@ pub record ImageLaws : Type 0 where
   pub formed : RunsAreFormed
   pub stands : TextStands
   pub aligned : PcIsAligned
+  pub tables : RunsHaveTable
   pub memory : MemoryStarts
   pub once : LabelsStandOnce
-  pub lands : NumbersLand
+  pub lands : ProgramsLand
   pub runs : LandingsRun
 
 -- ---- The first memory
@@ -48,7 +50,8 @@ same_bytes memory initial from at low bytes zero = by_cases (cases_lt (at - from
 among_first : (count l : ℕ) → l < count → among 0 count l ≡ 1
 among_first count l lt = ap (λ t. if nat_lt l 0 then 0 else if t then 1 else 0) (let e : l < 0 + count = omega (arith, lt) in lt-ltb l (0 + count) e) ∙ ap (λ t. if t then 0 else 1) (le-ltb l 0 (omega arith))
 
-module _ (laws : ImageLaws) (code : FCode) (image : Image) (of : IsImageOf code image) (input : List ℕ) (bytes : All IsByte input) where
+module _ (laws : ImageLaws) (code : FCode) (image : Image) (of : IsImageOf code image) (input : List ℕ) (bytes : All IsByte input)
+    (reach : (m : ℕ) → RunsInReach code (global_blocks image) image.frames input m) where
   -- the machine before its first instruction
   abbrev first : World
   first = record { machine = start image; left = input; told = [] }
@@ -64,6 +67,7 @@ module _ (laws : ImageLaws) (code : FCode) (image : Image) (of : IsImageOf code 
     count = length code.functions + functions_labels 4 code.functions;
     once = λ l lt. laws.once 4 code l ∙ among_first (length code.functions + functions_labels 4 code.functions) l lt;
     aligned = λ n. laws.aligned image input n of.rules;
+    tables = λ n off. laws.tables image input n of.rules of.bytes bytes off;
   }
 
   starts_so : (at : ℕ) → GLOBALS_START ≤ at → at < MEMORY_END → slice_index (start_memory image) at ≡ flat.start_memory code.initial at
@@ -84,6 +88,7 @@ module _ (laws : ImageLaws) (code : FCode) (image : Image) (of : IsImageOf code 
     layouts = refl;
     entered = refl;
     left = refl;
+    live = refl;
     told = refl;
   }
 
@@ -101,7 +106,7 @@ module _ (laws : ImageLaws) (code : FCode) (image : Image) (of : IsImageOf code 
   runs : RunsAs (global_blocks image) (λ m. outcome_of (flat_run 4 code (global_blocks image) image.frames input m)) (machine_after image input)
   runs =
       laws.runs (global_blocks image) (λ m. outcome_of (flat_run 4 code (global_blocks image) image.frames input m)) first
-      (λ m. laws.lands scene code program (global_blocks image) input starts m)
+      (λ m. laws.lands scene code program (global_blocks image) input starts m (reach m))
 
 pub selection_runs : ImageLaws → SelectionRuns
-selection_runs laws code image of input bytes = runs laws code image of input bytes
+selection_runs laws code image of input bytes reach = runs laws code image of input bytes reach

@@ -6,6 +6,15 @@ pub mod Pieces
 pub mod Constructs
 pub mod Steps
 pub mod Asking
+pub mod Accesses
+pub mod Loading
+pub mod Writes
+pub mod Storing
+pub mod Slots
+pub mod Checking
+pub mod Tables
+pub mod Looking
+pub mod Framed
 pub mod Items
 pub mod Raw
 pub mod Pushes
@@ -17,3 +26,5 @@ pub mod Followed
 pub mod Calls
 pub mod Whole
 pub mod Images
+pub mod Calm
+pub mod Claimed

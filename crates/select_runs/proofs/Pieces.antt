@@ -1,5 +1,5 @@
 -- The pieces of straight code that steps are selected as: that they are straight, how long they are, and parts one after another.
-use Rattle.std.proofs.Common.{◌≡◌, ◌≢◌, ◌==◌, ℕ, ◌+◌, ◌%◌, ◌^◌, ◌<◌, ◌≤◌, ◌⊎◌, inl, inr, Bool, true, false, if◌then◌else◌, List, [], ◌∷◌, ◌++◌, length, Option, Some, None, refl, sym, ap, ◌∙◌, arith, length-append}
+use Rattle.std.proofs.Common.{◌≡◌, ◌≢◌, ◌==◌, ℕ, ◌+◌, ◌%◌, ◌^◌, ◌<◌, ◌≤◌, ◌⊎◌, inl, inr, Bool, true, false, if◌then◌else◌, List, [], ◌∷◌, ◌++◌, length, Option, Some, None, refl, sym, ap, ◌∙◌, subst, arith, length-append}
 use Rattle.std.proofs.lemmas.Bool.{eq-eqb, ne_eqb, cases_eq}
 use Rattle.bb_words.specs.declared.steps.ArithOp.{ArithOp}
 use Rattle.bb_words.specs.declared.steps.ArithOp.TheVariants as op
@@ -10,7 +10,7 @@ use Rattle.rv_asm.specs.Runs.{PartsAt}
 use Rattle.rv_code.specs.declared.instr.Instr.{Instr}
 use Rattle.rv_code.specs.declared.instr.Instr.TheVariants.{Lui, Addi}
 use Rattle.rv_select.specs.Layout.{cell, load, store, constant, is_short}
-use Rattle.rv_select.specs.Steps.{fetch, operation, number_code, same_code, arith_code}
+use Rattle.rv_select.specs.Steps.{plains, fetch, operation, number_code, same_code, arith_code}
 use Rattle.rv_select.specs.Straight.{Held, changed, does_all, IsSet, IsCell, AreStraight}
 use Rattle.rv_select.specs.Follows.{Stands, Keeps}
 use Rattle.select_runs.specs.Scene.{Scene}
@@ -23,6 +23,17 @@ pub parts_split : (s : Scene) (xs ys : List Part) (a b : ℕ) → PartsAt s.text
     → (m : ℕ) × PartsAt s.text s.all s.labels a xs m × PartsAt s.text s.all s.labels m ys b
 parts_split s [] ys a b h = (a, refl, h)
 parts_split s (x ∷ xs) ys a b h = let rest = parts_split s xs ys h.0 b h.2 in (rest.0, (h.0, h.1, rest.1), rest.2)
+
+-- where the instructions of one list end and those of the other begin
+pub plains_split : (s : Scene) (x y : List Instr) (a b : ℕ) → PartsAt s.text s.all s.labels a (plains (x ++ y)) b
+    → (m : ℕ) × PartsAt s.text s.all s.labels a (plains x) m × PartsAt s.text s.all s.labels m (plains y) b
+plains_split s [] y a b h = (a, refl, h)
+plains_split s (i ∷ x) y a b h = let rest = plains_split s x y h.0 b h.2 in (rest.0, (h.0, h.1, rest.1), rest.2)
+
+-- and the other way round
+pub plains_join : (s : Scene) (x y : List Instr) (a m b : ℕ) → PartsAt s.text s.all s.labels a (plains x) m → PartsAt s.text s.all s.labels m (plains y) b → PartsAt s.text s.all s.labels a (plains (x ++ y)) b
+plains_join s [] y a m b h rest = subst (λ p. PartsAt s.text s.all s.labels p (plains y) b) h rest
+plains_join s (i ∷ x) y a m b h rest = (h.0, h.1, plains_join s x y h.0 m b h.2 rest)
 
 -- ---- Registers and cells
 

@@ -4,6 +4,7 @@ use Rattle.std.specs.Prelude.{slice_index}
 use Rattle.bb_words.specs.Answers.{Answer, and_then}
 use Rattle.flat_code.specs.Told.{tells}
 use Rattle.flat_code.specs.World.{FWorld, FPoint, Ending, Run, Way, onward, out_of}
+use Rattle.flat_verify.specs.Comes.{IfOn}
 use Rattle.rv_machine.specs.State.{register_of}
 use Rattle.rv_machine.specs.Environment.{World}
 use Rattle.flat_landing.specs.Lands.{halt_of, KeepsControl}
@@ -117,16 +118,16 @@ module _ (s : Scene) (f : Frame) where
   forgets r b known q k t (Answer.Goes (Way.Back word) u) h = h
   forgets r b known q k t (Answer.Ends ending u) h = h
 
-  -- ---- Steps one after another
+  -- ---- Steps one after another, the later ones with what holds where they begin
 
-  pub then_comes : (r : Around) (m b : ℕ) (known last : Option ℕ) (q k t : ℕ) (o : Run Way) (go : FPoint → Run Way) → Comes s f r m known q k t o
-      → ((u : FPoint) (j : ℕ) → At s f m known u j → Comes s f r b last q j u.world.time (go u))
+  pub then_comes : (r : Around) (m b : ℕ) (known last : Option ℕ) (q k t : ℕ) (o : Run Way) (go : FPoint → Run Way) (P : FPoint → Type 0) → IfOn o P → Comes s f r m known q k t o
+      → ((u : FPoint) (j : ℕ) → P u → At s f m known u j → Comes s f r b last q j u.world.time (go u))
       → Comes s f r b last q k t (and_then o (λ way u. onward way u go))
   unfolding and_then
-  then_comes r m b known last q k t (Answer.Goes Way.On u) go h g = comes_from r b last q k t h.count u.world.time (go u) h.later h.within (g u h.count h.there)
-  then_comes r m b known last q k t (Answer.Goes (Way.Out n) u) go h g = h
-  then_comes r m b known last q k t (Answer.Goes (Way.Back word) u) go h g = h
-  then_comes r m b known last q k t (Answer.Ends ending u) go h g = h
+  then_comes r m b known last q k t (Answer.Goes Way.On u) go P p h g = comes_from r b last q k t h.count u.world.time (go u) h.later h.within (g u h.count p h.there)
+  then_comes r m b known last q k t (Answer.Goes (Way.Out n) u) go P p h g = h
+  then_comes r m b known last q k t (Answer.Goes (Way.Back word) u) go P p h g = h
+  then_comes r m b known last q k t (Answer.Ends ending u) go P p h g = h
 
   -- ---- Blocks
 

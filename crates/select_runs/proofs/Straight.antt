@@ -87,7 +87,7 @@ same_word old new at same =
     let d = same (at + 3) (omega arith) (omega arith) in
     rw (a, b, c, d) refl
 
-memory_long : (c : Core) → IsCore c → length c.memory ≡ 0x200_0000
+pub memory_long : (c : Core) → IsCore c → length c.memory ≡ 0x200_0000
 unfolding memory_size
 memory_long c form = form.memory
 

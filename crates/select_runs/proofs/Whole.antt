@@ -29,7 +29,8 @@ use Rattle.rv_select.specs.Straight.{Held, does_all}
 use Rattle.flat_landing.specs.Lands.{outcome_of, KeepsControl, Lands}
 use Rattle.flat_landing.specs.Shared.{shared}
 use Rattle.select_runs.specs.Frame.{IsFrameAt}
-use Rattle.select_runs.specs.Laws.{NumbersLand}
+use Rattle.select_runs.specs.InReach.{RunsInReach}
+use Rattle.select_runs.specs.Laws.{ProgramsLand}
 use Rattle.select_runs.specs.Fits.{FitsFunction, params_of}
 use Rattle.select_runs.specs.Scene.{Scene, IsScene, StartsAs, after, Frame, edge, held_of, Agrees}
 use Rattle.select_runs.proofs.Agree.{Laws, frame_unnoticed}
@@ -134,6 +135,7 @@ module _ (laws : Laws) (s : Scene) (scene : IsScene s) where
                 ((laws.each_appends s.globals s.globals did.events (event ∷ [])).1 (quiet.safe _ _, (tt, tt))));
             returns = ap (λ x. open_after [] (events_of x.told)) last ∙ ap (open_after []) events ∙ laws.open_appends [] did.events (event ∷ []) ∙ ap (λ o. open_on o (event ∷ [])) (quiet.stay [])
                 ∙ ap (λ x. Some (x ∷ [])) four;
+            settled = record { live = st.live; high = tt; stack = omega arith };
           };
           kept = record { by = λ n front came. nothing_came n front came };
         };
@@ -198,8 +200,8 @@ module _ (laws : Laws) (s : Scene) (scene : IsScene s) where
       → length code.functions + functions_labels 4 code.functions ≤ scene.count → ((i : ℕ) → i < length code.functions → slice_get s.frames i ≡ Some [])
       → ((number : ℕ) (fn : FFunction) → slice_get code.functions number ≡ Some fn → FitsFunction (λ n. params_of (slice_get code.functions n)) number fn)
       → slice_get code.functions code.main ≡ Some main → main.params ≡ 0 → ((steps : FSteps) → all_steps 4 (items_of 4 steps) ≡ steps)
-      → StartsAs s (start code.initial globals input).world → Lands s.globals (outcome_of (flat_run 4 code globals s.frames input m)) m (λ n. after s n)
-  lands code globals input main end m parts labels layout fit is none items_are st =
+      → StartsAs s (start code.initial globals input).world → RunsInReach code globals s.frames input m → Lands s.globals (outcome_of (flat_run 4 code globals s.frames input m)) m (λ n. after s n)
+  lands code globals input main end m parts labels layout fit is none items_are st reach =
       let fs = code.functions in
       let both = parts_split s (start_parts code.main) (functions_parts 4 0 (length fs) fs) 4096 end parts in
       let h = both.1 in
@@ -224,10 +226,10 @@ module _ (laws : Laws) (s : Scene) (scene : IsScene s) where
       } in
       let short = begun.few in
       let done = runs.run f code.main main [] [] (start code.initial globals input) begun.count 8 is (sym none) callee
-      (omega (arith, short), omega arith, λ deep. absurd (let e : false ≡ true = deep in let z : ⊥ = cc in z)) begun.called in
+      (omega (arith, short), omega arith, λ deep. absurd (let e : false ≡ true = deep in let z : ⊥ = cc in z)) reach begun.called in
       came_to f both.0 m begun.count (start code.initial globals input).words (calls 4 s.frames m fs m code.main [] (start code.initial globals input)) top h.2.2.2 short done
 
 -- the law of whole programs
-pub numbers_land : Laws → ((steps : FSteps) → all_steps 4 (items_of 4 steps) ≡ steps) → NumbersLand
-numbers_land laws items_are s code p globals input st m =
-    lands laws s p.scene code globals input p.fits.first.main p.end m p.parts p.labels p.frames p.fits.functions p.fits.first.main_is p.fits.first.no_params items_are st
+pub programs_land : Laws → ((steps : FSteps) → all_steps 4 (items_of 4 steps) ≡ steps) → ProgramsLand
+programs_land laws items_are s code p globals input st m reach =
+    lands laws s p.scene code globals input p.fits.first.main p.end m p.parts p.labels p.frames p.fits.functions p.fits.first.main_is p.fits.first.no_params items_are st reach

@@ -1,5 +1,5 @@
--- Flat code of numbers: which steps and items a machine is shown to follow. Numbers are in range: those of values, those of
--- the constructs around, those of functions.
+-- Flat code that a machine is shown to follow: all steps but malloc and free, and all items but the sequences that check
+-- pointers. Numbers are in range: those of values, those of the constructs around, those of functions.
 use Rattle.std.specs.Prelude.{◌≡◌, ℕ, suc, ◌^◌, ◌<◌, ◌≤◌, List, [], ◌∷◌, length, Option, Some, None, slice_get}
 use Rattle.flat_code.specs.Code.{FStep, FFunction, FCode}
 use Rattle.flat_verify.specs.Items.{Item, Items, items_of}
@@ -24,6 +24,12 @@ module _ (values : ℕ) (params : ℕ → Option ℕ) where
   FitsStep levels (FStep.Exit n) = (1 ≤ n) × (n ≤ levels)
   FitsStep levels (FStep.Call to function args) = (to < values) × AreValues values args × (params function ≡ Some (length args)) × (length args ≤ 8)
   FitsStep levels (FStep.Return from) = from < values
+  FitsStep levels (FStep.Load to at width) = (to < values) × (at < values)
+  FitsStep levels (FStep.Store at from width) = (at < values) × (from < values)
+  FitsStep levels (FStep.Slot to from) = (to < values) × (from < values)
+  FitsStep levels (FStep.Checked from to) = (from < values) × (to < values)
+  FitsStep levels (FStep.Look to slot) = (to < values) × (slot < values)
+  FitsStep levels (FStep.FrameAt to offset) = (to < values) × (offset < 2 ^ 31)
   FitsStep levels (FStep.LineMark line) = line < 2 ^ 20
   FitsStep levels (FStep.Report kind line) = line < values
   FitsStep levels (FStep.Env to call a b) = (to < values) × (a < values) × (b < values) × (1 ≤ call) × (call ≤ 3)
@@ -52,7 +58,7 @@ pub record FitsFunction (params : ℕ → Option ℕ) (number : ℕ) (f : FFunct
   pub number_is : number < 2 ^ 32
   pub items : FitItems f.values params 0 (items_of 4 f.body)
 
--- each function of the code is one of numbers
+-- each function of the code fits
 abbrev pub FunctionsFit : FCode → Type 0
 FunctionsFit code = (number : ℕ) (f : FFunction) → slice_get code.functions number ≡ Some f → FitsFunction (λ n. params_of (slice_get code.functions n)) number f
 
@@ -62,7 +68,7 @@ pub record HasMain (code : FCode) : Type 0 where
   pub main_is : slice_get code.functions code.main ≡ Some main
   pub no_params : main.params ≡ 0
 
--- the code of a program of numbers
+-- the code of a program that fits
 pub record FitsProgram (code : FCode) : Type 0 where
   pub functions : FunctionsFit code
   pub first : HasMain code

@@ -1,4 +1,4 @@
--- When an image is that of a program of numbers.
+-- When an image is that of a program whose code fits.
 use Rattle.std.specs.Prelude.{◌≡◌, ℕ, ◌<◌, [], All, length, Some, slice_get, slice_index}
 use Rattle.size_table.specs.declared.memory_map.TheConstants.{TEXT_START}
 use Rattle.flat_code.specs.Code.{FCode}

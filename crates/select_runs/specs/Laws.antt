@@ -12,9 +12,10 @@ use Rattle.rv_select.specs.Selection.{functions_labels, selected}
 use Rattle.flat_landing.specs.Lands.{outcome_of, Lands, RunsAs}
 use Rattle.select_runs.specs.Fits.{FitsProgram}
 use Rattle.select_runs.specs.ImageOf.{IsImageOf}
+use Rattle.select_runs.specs.InReach.{RunsInReach}
 use Rattle.select_runs.specs.Scene.{Scene, IsScene, StartsAs, after}
 
--- The selected parts of a program of numbers stand in the text, from its begin on, and its frames have no objects.
+-- The selected parts of a program that fits stand in the text, from its begin on, and its frames have no objects.
 pub record IsProgramIn (s : Scene) (code : FCode) : Type 0 where
   pub scene : IsScene s
   pub end : ℕ
@@ -23,16 +24,16 @@ pub record IsProgramIn (s : Scene) (code : FCode) : Type 0 where
   pub frames : (i : ℕ) → i < length code.functions → slice_get s.frames i ≡ Some []
   pub fits : FitsProgram code
 
--- A machine whose text is the selected code of a program of numbers lands for every bound on the turns and nested calls of
--- flat code: so its runs are those of flat code.
-abbrev pub NumbersLand : Type 0
-NumbersLand =
+-- A machine whose text is the selected code of a program that fits lands for each bound on the turns and nested calls of
+-- flat code for which each step that the run comes to is in reach: so its runs are those of flat code.
+abbrev pub ProgramsLand : Type 0
+ProgramsLand =
     (s : Scene) (code : FCode) → IsProgramIn s code → (globals : List Block) (input : List ℕ) → StartsAs s (start code.initial globals input).world
-    → (m : ℕ) → Lands s.globals (outcome_of (flat_run 4 code globals s.frames input m)) m (λ n. after s n)
+    → (m : ℕ) → RunsInReach code globals s.frames input m → Lands s.globals (outcome_of (flat_run 4 code globals s.frames input m)) m (λ n. after s n)
 
--- An image of the selected code of a program of numbers runs as its flat code does, with the image's global blocks and frames,
--- on every input.
+-- An image of the selected code of a program that fits runs as its flat code does, with the image's global blocks and frames,
+-- on every input on which each step that flat code comes to is in reach.
 abbrev pub SelectionRuns : Type 0
 SelectionRuns =
-    (code : FCode) (image : Image) → IsImageOf code image → (input : List ℕ) → All IsByte input
+    (code : FCode) (image : Image) → IsImageOf code image → (input : List ℕ) → All IsByte input → ((m : ℕ) → RunsInReach code (global_blocks image) image.frames input m)
     → RunsAs (global_blocks image) (λ m. outcome_of (flat_run 4 code (global_blocks image) image.frames input m)) (machine_after image input)

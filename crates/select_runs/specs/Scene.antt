@@ -1,12 +1,16 @@
 -- A machine that runs selected code beside flat code: what stands where, and when both agree at a point.
-use Rattle.std.specs.Prelude.{◌≡◌, ℕ, ◌+◌, ◌-◌, ◌*◌, ◌%◌, ◌<◌, ◌≤◌, List, [], length, slice_index, Option, Some, None}
+use Rattle.std.specs.Prelude.{◌≡◌, ℕ, ◌+◌, ◌-◌, ◌*◌, ◌%◌, ◌<◌, ◌≤◌, List, [], ◌∷◌, length, slice_index, Option, Some, None}
+use Rattle.bb_watch.specs.Live as machine_live
 use Rattle.bb_watch.specs.Told.{events_of}
 use Rattle.bb_watch.specs.Safety.{Each, IsControlSafe, open_after}
 use Rattle.size_table.specs.Blocks.{Block}
 use Rattle.size_table.specs.Memory.{word_at, Stand}
 use Rattle.size_table.specs.declared.memory_map.TheConstants.{TABLE_START, CONTROL_START, GLOBALS_START, HEAP_START, MEMORY_END}
-use Rattle.flat_code.specs.Told.{Stamped, tells, Begins, Came}
+use Rattle.size_table.specs.Table.{IsTableOf, table_in}
+use Rattle.flat_code.specs.Safety.{live_of}
+use Rattle.flat_code.specs.Told.{Tell, Stamped, tells, Begins, Came}
 use Rattle.flat_code.specs.World.{Words, FWorld, FPoint}
+use Rattle.rv_machine.specs.Changes.{AreOffTable}
 use Rattle.rv_machine.specs.declared.frames.Entered.{Entered}
 use Rattle.rv_machine.specs.State.{Core, register_of}
 use Rattle.rv_machine.specs.Environment.{World}
@@ -33,8 +37,8 @@ pub record Scene : Type 0 where
 abbrev pub after : Scene → ℕ → World
 after s n = steps n s.start
 
--- After each instruction the core is one, and the text stands in its memory; so many labels stand once each; and the program
--- counter is a multiple of 4.
+-- After each instruction the core is one, and the text stands in its memory; so many labels stand once each; the program
+-- counter is a multiple of 4; and the size table is that of the live blocks, where the program has not written to it.
 pub record IsScene (s : Scene) : Type 0 where
   pub form : (n : ℕ) → IsCore (after s n).machine.core
   pub stands : (n : ℕ) → Stand (after s n).machine.core.memory 4096 s.text
@@ -42,6 +46,7 @@ pub record IsScene (s : Scene) : Type 0 where
   pub count : ℕ
   pub once : (l : ℕ) → l < count → times_in l s.all ≡ 1
   pub aligned : (n : ℕ) → (after s n).machine.core.pc % 4 ≡ 0
+  pub tables : (n : ℕ) → AreOffTable (events_of (after s n).told) → IsTableOf 4 (machine_live.live_of s.globals (events_of (after s n).told)) (table_in (after s n).machine.core.memory)
 
 -- the machine before its first instruction, beside the first world of flat code
 pub record StartsAs (s : Scene) (w : FWorld) : Type 0 where
@@ -53,6 +58,7 @@ pub record StartsAs (s : Scene) (w : FWorld) : Type 0 where
   pub layouts : (after s 0).machine.frames.layouts ≡ s.frames
   pub entered : (after s 0).machine.frames.entered ≡ []
   pub left : (after s 0).left ≡ w.input
+  pub live : w.live ≡ s.globals
   pub told : (after s 0).told ≡ []
 
 -- ---- The call that runs
@@ -90,6 +96,22 @@ pub record HoldsFrame (f : Frame) (known : Option ℕ) (words : Words) (c : Core
   pub stands : Stands f.values known words (held_of f.sp c)
   pub behind : word_at c.memory (f.sp + 4 * f.values) ≡ f.back
 
+-- what was told is no access below the globals
+abbrev pub IsHigh : Tell → Type 0
+IsHigh (Tell.Access at size write) = GLOBALS_START ≤ at
+IsHigh what = Unit {0}
+
+abbrev pub AreHigh : List Tell → Type 0
+AreHigh [] = Unit {0}
+AreHigh (what ∷ more) = IsHigh what × AreHigh more
+
+-- The blocks that live are those of what was told, all accesses that were told are to the globals or above, and the stack
+-- number is not past the end of the data stack.
+pub record IsSettled (globals : List Block) (w : FWorld) : Type 0 where
+  pub live : w.live ≡ live_of globals (tells w.told)
+  pub high : AreHigh (tells w.told)
+  pub stack : w.stack ≤ HEAP_START
+
 -- A machine agrees with a world of flat code, but for the values of the call that runs: from the globals on both have the
 -- same bytes, and both have told the same; it has kept control.
 pub record Agrees (s : Scene) (f : Frame) (w : FWorld) (v : World) : Type 0 where
@@ -105,6 +127,7 @@ pub record Agrees (s : Scene) (f : Frame) (w : FWorld) (v : World) : Type 0 wher
   pub said : shared v.told ≡ tells w.told
   pub accesses : Each IsControlSafe s.globals s.globals (events_of v.told)
   pub returns : open_after [] (events_of v.told) ≡ Some f.places
+  pub settled : IsSettled s.globals w
 
 -- whatever was told by a time, the machine has told after as many instructions
 pub record IsKept (s : Scene) (told : List Stamped) : Type 0 where

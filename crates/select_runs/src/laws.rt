@@ -1,6 +1,7 @@
 //! The laws of selected code that runs.
 ghost use Rattle.select_runs.specs.Frame.{StraightRuns};
-ghost use Rattle.select_runs.specs.Laws.{NumbersLand, SelectionRuns};
+ghost use Rattle.select_runs.specs.InReach.{CalmIsInReach, SafeIsInReach};
+ghost use Rattle.select_runs.specs.Laws.{ProgramsLand, SelectionRuns};
 
 /// Straight code that stands in a text is done in as many steps as it has instructions. It tells accesses to the control
 /// frame alone, and changes nothing but registers and that frame.
@@ -12,14 +13,15 @@ pub fn straight_runs()
     rv_machine::laws::core_stays();
 }
 
-/// A machine whose text is the selected code of a program of numbers lands for every bound on the turns and nested calls of
-/// flat code.
-pub fn numbers_land()
-    ensures { NumbersLand }
+/// A machine whose text is the selected code of a program that fits lands for each bound on the turns and nested calls of
+/// flat code for which each step that the run comes to is in reach.
+pub fn programs_land()
+    ensures { ProgramsLand }
 {
     straight_runs();
     rv_machine::laws::steps_add();
     rv_machine::laws::core_stays();
+    rv_machine::laws::others_stay();
     rv_select::laws::steps_lead();
     flat_landing::laws::kept_more();
     flat_landing::laws::shared_appends();
@@ -28,18 +30,32 @@ pub fn numbers_land()
     bb_watch::laws::each_appends();
     bb_watch::laws::open_appends();
     flat_code::laws::tells_append();
+    flat_code::laws::live_appends();
     flat_verify::laws::items_are_steps();
 }
 
-/// An image of the selected code of a program of numbers runs as its flat code does.
+/// An image of the selected code of a program that fits runs as its flat code does, if each step that it comes to is in reach.
 pub fn selection_runs()
     ensures { SelectionRuns }
 {
-    numbers_land();
+    programs_land();
     rv_machine::laws::runs_are_formed();
     rv_machine::laws::text_stands();
     rv_machine::laws::pc_is_aligned();
+    rv_machine::laws::runs_have_table();
     rv_machine::laws::memory_starts();
     rv_select::laws::labels_stand_once();
     flat_landing::laws::landings_run();
+}
+
+/// Code in which no step looks into the size table, takes an address in the frame, or accesses memory: each of its runs is in
+/// reach.
+pub fn calm_is_in_reach()
+    ensures { CalmIsInReach }
+{}
+
+/// A run is in reach if each step that it comes to is safe, and its accesses that are made are to the globals or above.
+pub fn safe_is_in_reach()
+    ensures { SafeIsInReach }
+{
 }

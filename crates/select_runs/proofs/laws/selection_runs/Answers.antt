@@ -6,8 +6,9 @@ returns c = selection_runs (record {
   formed = c.runs_are_formed.ensures;
   stands = c.text_stands.ensures;
   aligned = c.pc_is_aligned.ensures;
+  tables = c.runs_have_table.ensures;
   memory = c.memory_starts.ensures;
   once = c.labels_stand_once.ensures;
-  lands = c.numbers_land.ensures;
+  lands = c.programs_land.ensures;
   runs = c.landings_run.ensures;
 })

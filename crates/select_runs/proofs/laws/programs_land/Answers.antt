@@ -1,6 +1,6 @@
 use Rattle.select_runs.proofs.Agree.{Laws}
 use Rattle.select_runs.proofs.Whole as whole
-use Rattle.select_runs.proofs.laws.numbers_land.Goals as goal
+use Rattle.select_runs.proofs.laws.programs_land.Goals as goal
 
 pub returns : goal.returns
 returns c =
@@ -8,6 +8,7 @@ returns c =
       straight = c.straight_runs.ensures;
       steps_add = c.steps_add.ensures;
       core_stays = c.core_stays.ensures;
+      others = c.others_stay.ensures;
       leads = c.steps_lead.ensures;
       kept_more = c.kept_more.ensures;
       events_append = c.events_append.ensures;
@@ -16,5 +17,6 @@ returns c =
       open_appends = c.open_appends.ensures;
       shared_appends = c.shared_appends.ensures;
       tells_append = c.tells_append.ensures;
+      live_appends = c.live_appends.ensures;
     } in
-    whole.numbers_land laws (λ steps. c.items_are_steps.ensures 4 steps)
+    whole.programs_land laws (λ steps. c.items_are_steps.ensures 4 steps)

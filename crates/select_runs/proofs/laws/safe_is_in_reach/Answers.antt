@@ -1,0 +1,5 @@
+use Rattle.select_runs.proofs.Claimed.{safe_is_in_reach}
+use Rattle.select_runs.proofs.laws.safe_is_in_reach.Goals as goal
+
+pub returns : goal.returns
+returns c = safe_is_in_reach
