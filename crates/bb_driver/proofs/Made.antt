@@ -29,7 +29,8 @@ use Rattle.rv_machine.specs.Live as machine
 use Rattle.rv_machine.specs.Machine.{machine_after}
 use Rattle.select_runs.specs.ImageOf as selection
 use Rattle.select_runs.specs.Laws.{SelectionRuns}
-use Rattle.number_code.specs.Laws.{CodeFits, MainFits, NoFrames, IsFrameless}
+use Rattle.select_runs.specs.InReach.{CalmIsInReach}
+use Rattle.number_code.specs.Laws.{CodeFits, CodeIsCalm, MainFits, NoFrames, IsFrameless}
 use Rattle.bb_driver.specs.Same.{SafeSitesHold}
 use Rattle.bb_driver.specs.Right.{Right}
 use Rattle.bb_driver.specs.Laws.{Layers, LayersMakeRight}
@@ -39,6 +40,8 @@ pub record MadeLaws : Type 0 where
   pub right : LayersMakeRight
   pub runs : SelectionRuns
   pub fits : CodeFits
+  pub calm : CodeIsCalm
+  pub in_reach : CalmIsInReach
   pub main : MainFits
   pub frameless : NoFrames
 
@@ -128,7 +131,7 @@ module _ (laws : MadeLaws) (p : CProgram) (image : Image) (typed : Typed p) (bui
   runs input fine =
       subst (λ frames. RunsAs (machine.global_blocks image) (λ m. outcome_of (flat_run 4 code (global_blocks 4 (lowered p)) frames input m)) (machine_after image input)) frames_are
       (subst (λ blocks. RunsAs (machine.global_blocks image) (λ m. outcome_of (flat_run 4 code blocks image.frames input m)) (machine_after image input)) no_blocks
-      (laws.runs code image of_code input fine))
+      (laws.runs code image of_code input fine (λ m. laws.in_reach code (laws.calm 4 p built) (machine.global_blocks image) image.frames input m)))
 
   layers : Keeps p (lowered p) → Layers 4 p (lowered p) no_sites code image
   layers keeps = record {

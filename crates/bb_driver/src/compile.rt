@@ -44,9 +44,11 @@ fn image_or_refusal(alloc: Global, text: &[u8]) -> Result<Compiled, CompileError
     layers_make_right();
     number_code::laws::code_is_built();
     number_code::laws::code_fits();
+    number_code::laws::code_is_calm();
     number_code::laws::main_fits();
     number_code::laws::no_frames();
     select_runs::laws::selection_runs();
+    select_runs::laws::calm_is_in_reach();
     let program = read(alloc, text)?;
     let mid = lower(alloc, &program)?;
     let image = image_of(alloc, &mid)?;

@@ -3,3 +3,4 @@ pub mod CodeNumbers
 pub mod FlatItems
 pub mod FitCode
 pub mod Whole
+pub mod CalmCode

@@ -1,5 +1,6 @@
 -- The laws of the code of programs of numbers, from the typed tree to flat code.
-use Rattle.std.specs.Prelude.{◌≡◌, ℕ, true, [], length, replicate}
+use Rattle.std.specs.Prelude.{◌≡◌, ℕ, true, [], length, replicate, Some, slice_get}
+use Rattle.flat_code.specs.Code.{FFunction}
 use Rattle.c_typed.specs.TypedTree.{CProgram}
 use Rattle.c_typed.specs.Typed.{Typed}
 use Rattle.mid_code.specs.Code.{Program}
@@ -9,6 +10,7 @@ use Rattle.lowering.specs.Lower.{lowered}
 use Rattle.bounds_instr.specs.Built as instr
 use Rattle.bounds_instr.specs.Code.{instrumented, global_blocks, frames_of}
 use Rattle.select_runs.specs.Fits.{FunctionsFit, HasMain}
+use Rattle.select_runs.specs.InReach.{AreCalm}
 
 -- The mid code of a program of numbers is built: where there is mid code, there is flat code.
 abbrev pub CodeIsBuilt : Type 0
@@ -18,6 +20,10 @@ CodeIsBuilt = (p : CProgram) → lowering.IsBuilt p → (instr.is_built (lowered
 -- instructions is proved for, where its mid code is well formed.
 abbrev pub CodeFits : Type 0
 CodeFits = (p : CProgram) → Typed p → lowering.IsBuilt p → Formed (lowered p) → FunctionsFit (instrumented 4 (lowered p))
+
+-- And none of its steps accesses memory, or looks into the size table.
+abbrev pub CodeIsCalm : Type 0
+CodeIsCalm = (g : ℕ) (p : CProgram) → lowering.IsBuilt p → (number : ℕ) (f : FFunction) → slice_get (instrumented g (lowered p)).functions number ≡ Some f → AreCalm f.body
 
 -- The first function that is called is there, and has no parameters.
 abbrev pub MainFits : Type 0

@@ -1,5 +1,5 @@
 //! Laws of the code of programs of numbers.
-ghost use Rattle.number_code.specs.Laws.{CodeIsBuilt, CodeFits, MainFits, NoFrames};
+ghost use Rattle.number_code.specs.Laws.{CodeIsBuilt, CodeFits, CodeIsCalm, MainFits, NoFrames};
 
 /// The mid code of a program of numbers has flat code.
 pub fn code_is_built()
@@ -12,6 +12,11 @@ pub fn code_fits()
 {
     flat_verify::laws::plain_items_are_read();
 }
+
+/// None of its steps accesses memory, or looks into the size table.
+pub fn code_is_calm()
+    ensures { CodeIsCalm }
+{}
 
 /// The first function that is called is there, and has no parameters.
 pub fn main_fits()

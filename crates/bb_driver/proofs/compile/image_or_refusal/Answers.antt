@@ -32,7 +32,7 @@ returns c =
     let p = program_of c.in_ok-program.program in
     let read = c.in_ok-program.ensures in
     let code = c.in_ok-mid.ensures.3 in
-    let laws : MadeLaws = record { right = c.layers_make_right.ensures; runs = c.selection_runs.ensures; fits = c.code_fits.ensures; main = c.main_fits.ensures; frameless = c.no_frames.ensures } in
+    let laws : MadeLaws = record { right = c.layers_make_right.ensures; runs = c.selection_runs.ensures; fits = c.code_fits.ensures; calm = c.code_is_calm.ensures; in_reach = c.calm_is_in_reach.ensures; main = c.main_fits.ensures; frameless = c.no_frames.ensures } in
     let image = c.in_ok-image.image in
     record {
       image = record {
