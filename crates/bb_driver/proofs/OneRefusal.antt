@@ -78,11 +78,11 @@ data Layer (text : List ℕ) (e : CompileError) : Type 0 where
   limits : (p : CProgram) (f : LowerError) → e ≡ compile.Lower f → Means text p → PassesLimit p f → Layer text e
 
 fails_to_lex : (text : List ℕ) (e : LexError) → Refuses text (compile.Lex e) → Lexes text (Err e)
-fails_to_lex text lex.Memory h = search h
+fails_to_lex text lex.Memory h = absurd h
 fails_to_lex text e h = h
 
 fails_to_type : (text : List ℕ) (e : TypeError) → Refuses text (compile.Typing e) → FailsToType text e
-fails_to_type text typing.Memory h = search h
+fails_to_type text typing.Memory h = absurd h
 fails_to_type text e h = h
 
 layer_of : (text : List ℕ) (e : CompileError) → Refuses text e → Layer text e
