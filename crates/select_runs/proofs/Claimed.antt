@@ -1,5 +1,5 @@
 -- What is claimed of each step of a run follows from a stronger claim.
-use Rattle.std.proofs.Common.{◌≡◌, ◌==◌, ℕ, zero, suc, ◌+◌, Bool, true, false, List, Option, Some, None, refl}
+use Rattle.std.proofs.Common.{◌==◌, ℕ, zero, suc, ◌+◌, Bool, true, false, List, Option, Some, None}
 use Rattle.std.specs.Prelude.{nat_lt, nat_le, slice_get}
 use Rattle.bb_words.specs.Answers.{Answer, either}
 use Rattle.size_table.specs.Blocks.{Block}
@@ -11,7 +11,6 @@ use Rattle.flat_code.specs.Run.{Calls, act, act_all, inner_turns, no_calls, call
 use Rattle.flat_code.specs.Time.{charge, turn_charge, call_charge}
 use Rattle.flat_verify.specs.Items.{step_places, steps_places}
 use Rattle.flat_verify.specs.Comes.{Claim, IfOn, InTurns, InStep, InSteps, nothing, InLibrary, InDefined, InOne, InNone, InCalls}
-use Rattle.flat_verify.specs.Discipline.{frame_in}
 use Rattle.select_runs.specs.InReach.{in_reach, is_safe_and_high, SafeIsInReach}
 
 on_map : (o : Run Way) (P Q : FPoint → Type 0) → ((u : FPoint) → P u → Q u) → IfOn o P → IfOn o Q

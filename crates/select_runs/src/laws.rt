@@ -57,5 +57,4 @@ pub fn calm_is_in_reach()
 /// A run is in reach if each step that it comes to is safe, and its accesses that are made are to the globals or above.
 pub fn safe_is_in_reach()
     ensures { SafeIsInReach }
-{
-}
+{}
