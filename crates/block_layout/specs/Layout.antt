@@ -1,7 +1,8 @@
 -- How objects are padded and laid out (Akritidis et al., Baggy Bounds Checking, section 3): each object is padded to a
 -- power of two of at least a slot, and objects lie one after another by declining padded size, so that each begins at a
 -- multiple of its own. A slot has 2 ^ g bytes.
-use Rattle.std.specs.Prelude.{◌==◌, ℕ, zero, suc, ◌+◌, ◌-◌, ◌*◌, ◌/◌, ◌^◌, List, [], ◌∷◌, ◌++◌, if◌then◌else◌}
+use Rattle.std.specs.Prelude.{◌==◌, ◌≤◌, ℕ, zero, suc, ◌+◌, ◌-◌, ◌*◌, ◌/◌, ◌^◌, List, [], ◌∷◌, ◌++◌, if◌then◌else◌}
+use Rattle.size_table.specs.declared.memory_map.TheConstants.{MOST_BYTES}
 use Rattle.size_table.specs.Pads.{exponent_of}
 
 -- an object that is to be laid out: its number, and how many bytes it has
@@ -39,6 +40,11 @@ placed_from g offset (item ∷ items) =
 -- the layout of objects of at most 2 ^ 24 bytes
 unfoldable pub layout : ℕ → List Item → List Placed
 layout g items = placed_from g 0 (declining g (25 - g) items)
+
+-- none has more bytes than an object may have
+abbrev pub AreSmall : List Item → Type 0
+AreSmall [] = Unit {0}
+AreSmall (item ∷ items) = (item.length ≤ MOST_BYTES) × AreSmall items
 
 -- how many bytes the objects have with their padding
 abbrev pub total_of : ℕ → List Item → ℕ

@@ -4,7 +4,7 @@ use Rattle.c_typed.specs.declared.typed.GlobalObject.{GlobalObject}
 use Rattle.c_typed.specs.declared.typed.GlobalObject.TheVariants.{Named, Text}
 use Rattle.c_typed.specs.declared.typed.InitialByte.{InitialByte}
 use Rattle.c_typed.specs.declared.typed.InitialByte.TheVariants.{Byte}
-use Rattle.c_typed.specs.TypedTree.{CLocal, CFunction, CProgram}
+use Rattle.c_typed.specs.TypedTree.{CGlobal, CLocal, CFunction, CProgram}
 use Rattle.block_layout.specs.Layout.{Item}
 
 -- objects of these lengths, numbered one after another
@@ -21,12 +21,17 @@ pub record Stored : Type 0 where
 abbrev pub items_of : List Stored → List Item
 items_of os = numbered 0 (map (λ o. o.length) os)
 
+abbrev pub stored_global : CGlobal → Stored
+stored_global o = record { length = o.size; initial = o.initial }
+
+-- a string with its zero (C11 6.4.5 p6)
+abbrev pub stored_text : List ℕ → Stored
+stored_text bytes = record { length = length bytes + 1; initial = map Byte bytes }
+
 -- The global objects of a program are its named ones in the order of declaration, and then its strings in the order of the
--- text, each with its zero (C11 6.4.5 p6).
+-- text.
 abbrev pub globals_of : CProgram → List Stored
-globals_of p =
-    map (λ o. record { length = o.size; initial = o.initial }) p.globals
-    ++ map (λ bytes. record { length = length bytes + 1; initial = map Byte bytes }) p.texts
+globals_of p = map stored_global p.globals ++ map stored_text p.texts
 
 abbrev pub global_items : CProgram → List Item
 global_items p = items_of (globals_of p)

@@ -10,7 +10,7 @@ use Rattle.bb_words.specs.Answers.{Answer, Goes, Ends, and_then}
 use Rattle.bb_words.specs.declared.kinds.ReportKind.TheVariants.{Depth, Stack}
 use Rattle.size_table.specs.declared.memory_map.TheConstants.{MOST_CALLS, STACK_START, HEAP_START}
 use Rattle.size_table.specs.Made.{blocks_from}
-use Rattle.block_layout.specs.Layout.{Placed, layout, stack_under}
+use Rattle.block_layout.specs.Layout.{Placed, AreSmall, layout, stack_under}
 use Rattle.source_meaning.specs.declared.values.Value.{Value}
 use Rattle.source_meaning.specs.declared.values.Value.TheVariants.{Num, Ptr}
 use Rattle.source_meaning.specs.declared.values.Ending.TheVariants.{Reported, Cut}
@@ -35,7 +35,6 @@ use Rattle.flat_code.specs.Run as run
 use Rattle.injection.specs.Words.{word_of_value}
 use Rattle.injection.specs.Memory.{IsValue, IsCell}
 use Rattle.injection.specs.Trail.{SafeSites}
-use Rattle.injection.specs.Laws.{AreSmall}
 use Rattle.bounds_instr.specs.Code.{code, global_blocks, frame_of, function_code, frames_of, instrumented}
 use Rattle.bounds_instr.specs.Keeps.{OutcomeAlike, Keeps}
 use Rattle.bounds_instr.proofs.Follow.{Follows, Grows, grows_on, grows_end, grows_then, follows_then, follows_goes, to_equal}

@@ -7,9 +7,9 @@ use Rattle.c_typed.specs.declared.typed_expr.LibCall.TheVariants as lib
 use Rattle.mid_code.specs.Code.{Step, Steps, Function, Program}
 use Rattle.mid_code.specs.Kinds.{Kind, Kinds, Signature, ArePassed, signature_of, IsKind, AreKinds}
 use Rattle.mid_code.specs.Formed.{IsLine, IsDistance, IsCallOf, IsInRange, AreInRange, first_kinds, IsFunction, AreFunctions, Formed}
-use Rattle.block_layout.specs.Layout.{Placed, layout}
+use Rattle.block_layout.specs.Layout.{Placed, AreSmall, layout}
 use Rattle.flat_code.specs.Accounts.{frame_size}
-use Rattle.injection.specs.Laws.{AreSmall, FramesAreAlike, exponents}
+use Rattle.injection.specs.Laws.{FramesAreAlike, exponents}
 use Rattle.std.proofs.lemmas.List.Elements.{All-nil, All-cons, All-head, All-tail}
 use Rattle.bounds_instr.specs.Built.{is_of_environment, is_built_step, are_built_steps, IsBuiltFunction, IsBuilt, is_none, is_built_function, are_built_functions, is_built}
 use Rattle.bounds_instr.specs.declared.instrument.TheConstants.{TEMPORARIES}

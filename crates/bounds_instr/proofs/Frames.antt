@@ -5,7 +5,7 @@ use Rattle.std.proofs.lemmas.List.Elements.{All-head, All-tail}
 use Rattle.size_table.specs.declared.memory_map.TheConstants.{STACK_START}
 use Rattle.size_table.specs.Blocks.{Block}
 use Rattle.size_table.specs.Made.{blocks_from}
-use Rattle.block_layout.specs.Layout.{Placed, layout, stack_under}
+use Rattle.block_layout.specs.Layout.{Placed, AreSmall, layout, stack_under}
 use Rattle.source_meaning.specs.declared.values.ObjectKind.{ObjectKind}
 use Rattle.source_meaning.specs.declared.values.ObjectKind.TheVariants.{Local}
 use Rattle.source_meaning.specs.declared.values.Value.{Value}
@@ -23,7 +23,7 @@ use Rattle.injection.specs.Words.{word_of_value}
 use Rattle.injection.specs.Memory.{IsValue, SameValues}
 use Rattle.injection.specs.Trail.{SafeSites, Says, TrailIsNamed}
 use Rattle.injection.specs.Worlds.{Accounted, Stays, Since, Heights}
-use Rattle.injection.specs.Laws.{AccountsCompose, AccountsKeep, AccountsGrow, SaysKeep, EntriesKeep, ExitsKeep, FramesAreAlike, FramesAlike, PlacesKeep, AreSmall, exponents, frame_objects, Entered, IsLaid}
+use Rattle.injection.specs.Laws.{AccountsCompose, AccountsKeep, AccountsGrow, SaysKeep, EntriesKeep, ExitsKeep, FramesAreAlike, FramesAlike, PlacesKeep, exponents, frame_objects, Entered, IsLaid}
 use Rattle.injection.specs.Laws as injection
 use Rattle.bounds_instr.specs.Code.{frame_of}
 use Rattle.bounds_instr.proofs.Meets.{by_later, by_append, Frame, Agrees, Meets}

@@ -3,7 +3,7 @@ use Rattle.std.specs.Prelude.{◌≡◌, Bool, true, false, ◌&&◌, List, [], 
 use Rattle.c_typed.specs.declared.typed_expr.LibCall.{LibCall}
 use Rattle.c_typed.specs.declared.typed_expr.LibCall.TheVariants as lib
 use Rattle.mid_code.specs.Code.{Step, Steps, Function, Program}
-use Rattle.injection.specs.Laws.{AreSmall}
+use Rattle.block_layout.specs.Layout.{AreSmall}
 
 -- the functions of the library that the environment does
 abbrev pub is_of_environment : LibCall → Bool

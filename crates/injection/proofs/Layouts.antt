@@ -1,194 +1,96 @@
 -- The layout of a frame, as objects and as blocks.
-use Rattle.std.proofs.Common.{◌≡◌, ℕ, zero, suc, ◌+◌, ◌-◌, ◌*◌, ◌/◌, ◌%◌, ◌^◌, ◌<◌, ◌≤◌, Bool, true, false, ◌==◌, cond, nat_lt, List, [], ◌∷◌, ◌++◌, refl, sym, ap, ◌∙◌, subst, arith, pow_pos, eqb-true, length}
-use Rattle.std.proofs.lemmas.Bool.Decides.{nat_tests}
+use Rattle.std.specs.Prelude.{All}
+use Rattle.std.proofs.Common.{◌≡◌, ℕ, ◌+◌, ◌-◌, ◌*◌, ◌/◌, ◌%◌, ◌^◌, ◌<◌, ◌≤◌, List, [], ◌∷◌, refl, sym, ap, ◌∙◌, subst, arith, pow_pos, length}
+use Rattle.std.proofs.lemmas.List.Elements.{All-head, All-tail}
 use Rattle.std.proofs.lemmas.Nat.{pow-add, mod-mul-add, div-add-mod'}
 use Rattle.size_table.specs.declared.memory_map.TheConstants.{STACK_START, HEAP_START}
-use Rattle.size_table.specs.Pads.{exponent_of, ExponentIsLeast}
-use Rattle.block_layout.specs.Layout.{Item, pad, padded_to, declining, placed_from, layout, total_of, alignment_of}
+use Rattle.block_layout.specs.Layout.{Item, Placed, AreSmall, layout, total_of, alignment_of}
+use Rattle.block_layout.specs.Laws.{FollowEachOther, IsAligned, Decline, LayoutsLieWell}
 use Rattle.flat_code.specs.Accounts.{frame_size, alignment}
-use Rattle.injection.specs.Laws.{exponents, IsLaid, AreSmall, FramesAlike}
+use Rattle.injection.specs.Laws.{exponents, IsLaid, FramesAlike}
 
-size_of_placed : (g offset : ℕ) (items : List Item) → frame_size (exponents (placed_from g offset items)) ≡ total_of g items
-size_of_placed g offset [] = refl
-size_of_placed g offset (i ∷ is) = ap (λ n. 2 ^ exponent_of g i.length + n) (size_of_placed g (offset + pad g i) is)
+size_of_following : (from to : ℕ) (ps : List Placed) → FollowEachOther from to ps → from + frame_size (exponents ps) ≡ to
+size_of_following from to [] f = omega (arith, f)
+size_of_following from to (p ∷ ps) f = let r = size_of_following (from + 2 ^ p.exponent) to ps f.1 in omega (arith, r)
 
-alignment_of_placed : (g offset : ℕ) (items : List Item) → alignment g (exponents (placed_from g offset items)) ≡ alignment_of g (placed_from g offset items)
-alignment_of_placed g offset [] = refl
-alignment_of_placed g offset (i ∷ is) = refl
+ends_behind : (from to : ℕ) (ps : List Placed) → FollowEachOther from to ps → from ≤ to
+ends_behind from to ps f = omega (arith, size_of_following from to ps f)
 
--- what items weigh together
-abbrev sum_of : (weight : Item → ℕ) → List Item → ℕ
-sum_of weight [] = 0
-sum_of weight (i ∷ is) = weight i + sum_of weight is
+alignment_is : (g : ℕ) (ps : List Placed) → alignment g (exponents ps) ≡ alignment_of g ps
+alignment_is g [] = refl
+alignment_is g (p ∷ ps) = refl
 
-total_is : (g : ℕ) (items : List Item) → total_of g items ≡ sum_of (pad g) items
-total_is g [] = refl
-total_is g (i ∷ is) = ap (λ n. pad g i + n) (total_is g is)
+alignment_most : (g : ℕ) (ps : List Placed) → g ≤ 24 → Decline 24 ps → alignment_of g ps ≤ 24
+alignment_most g [] most d = most
+alignment_most g (p ∷ ps) most d = d.0
 
-length_is : (items : List Item) → length items ≡ sum_of (λ i. 1) items
-length_is [] = refl
-length_is (i ∷ is) = let r = length_is is in omega (arith, r)
+first_declines : (g : ℕ) (ps : List Placed) → Decline 24 ps → Decline (alignment_of g ps) ps
+first_declines g [] d = tt
+first_declines g (p ∷ ps) d = (omega arith, d.1)
 
-length_of_placed : (g offset : ℕ) (items : List Item) → length (placed_from g offset items) ≡ length items
-length_of_placed g offset [] = refl
-length_of_placed g offset (i ∷ is) = ap suc (length_of_placed g (offset + pad g i) is)
+product_moved : (k q p : ℕ) → k * (q * p) ≡ k * q * p
+product_moved k q p = grind arith
 
-sum_append : (weight : Item → ℕ) (xs ys : List Item) → sum_of weight (xs ++ ys) ≡ sum_of weight xs + sum_of weight ys
-sum_append weight [] ys = omega arith
-sum_append weight (x ∷ xs) ys = let r = sum_append weight xs ys in omega (arith, r)
+products_sum : (k q p : ℕ) → k * p + q * p ≡ (k + q) * p
+products_sum k q p = grind arith
 
--- ---- What a layout weighs
+-- A place that is aligned from the start on is aligned, where the start is a multiple of more.
+from_start : (start c m e offset : ℕ) → start ≡ c * 2 ^ m → e ≤ m → offset % 2 ^ e ≡ 0 → (start + offset) % 2 ^ e ≡ 0
+from_start start c m e offset is le h =
+    let p = 2 ^ e in
+    let k = c * 2 ^ (m - e) in
+    let q = offset / p in
+    let whole : start ≡ k * p =
+    is ∙ ap (λ n. c * 2 ^ n) (let s : m ≡ (m - e) + e = omega (arith, le) in s) ∙ ap (λ n. c * n) (pow-add 2 (m - e) e) ∙ product_moved c (2 ^ (m - e)) p in
+    let part : offset ≡ q * p = let d = div-add-mod' offset p in omega (arith, d, h) in
+    let sum : start + offset ≡ (k + q) * p + 0 = omega (arith, whole, part, products_sum k q p) in
+    ap (λ x. x % p) sum ∙ mod-mul-add (k + q) p 0 (pow_pos e)
 
--- what the items weigh whose exponents are below m
-abbrev below : (weight : Item → ℕ) → (g m : ℕ) → List Item → ℕ
-below weight g m [] = 0
-below weight g m (i ∷ is) = cond (nat_lt (exponent_of g i.length) m) (weight i) 0 + below weight g m is
-
-step_item : (e m p t r : ℕ) → cond (nat_lt e (suc m)) p 0 + (t + r) ≡ cond (e == m) (p + t) t + (cond (nat_lt e m) p 0 + r)
-step_item e m p t r = grind (arith, nat_tests)
-
-below_step : (weight : Item → ℕ) (g m : ℕ) (items : List Item) → below weight g (suc m) items ≡ sum_of weight (padded_to g m items) + below weight g m items
-below_step weight g m [] = refl
-below_step weight g m (i ∷ is) =
-    ap (λ n. cond (nat_lt (exponent_of g i.length) (suc m)) (weight i) 0 + n) (below_step weight g m is)
-    ∙ step_item (exponent_of g i.length) m (weight i) (sum_of weight (padded_to g m is)) (below weight g m is)
-    ∙ ap (λ n. n + (cond (nat_lt (exponent_of g i.length) m) (weight i) 0 + below weight g m is)) (by (exponent_of g i.length == m))
-  where
-    by : (t : Bool) → cond t (weight i + sum_of weight (padded_to g m is)) (sum_of weight (padded_to g m is)) ≡ sum_of weight (cond t (i ∷ padded_to g m is) (padded_to g m is))
-    by true = refl
-    by false = refl
-
-module _ (exponents_least : ExponentIsLeast) (g : ℕ) (one : 1 ≤ g) (small : g ≤ 24) where
-  none_below : (weight : Item → ℕ) (items : List Item) → AreSmall items → below weight g (g + 0) items ≡ 0
-  none_below weight [] s = refl
-  none_below weight (i ∷ is) s =
-      let e = (exponents_least g i.length small s.0).slot in
-      ap (λ t. cond t (weight i) 0 + below weight g (g + 0) is) (no (exponent_of g i.length) (g + 0) (omega (arith, e))) ∙ let r = none_below weight is s.1 in omega (arith, r)
-    where
-      no : (a b : ℕ) → b ≤ a → nat_lt a b ≡ false
-      no a b h = grind (arith, nat_tests)
-
-  all_below : (weight : Item → ℕ) (m : ℕ) (items : List Item) → 24 < m → AreSmall items → below weight g m items ≡ sum_of weight items
-  all_below weight m [] lt s = refl
-  all_below weight m (i ∷ is) lt s =
-      let e = (exponents_least g i.length small s.0).least 24 small s.0 in
-      ap (λ t. cond t (weight i) 0 + below weight g m is) (yes (exponent_of g i.length) m (omega (arith, e, lt))) ∙ ap (λ n. weight i + n) (all_below weight m is lt s.1)
-    where
-      yes : (a b : ℕ) → a < b → nat_lt a b ≡ true
-      yes a b h = grind (arith, nat_tests)
-
-  declining_sum : (weight : Item → ℕ) (n : ℕ) (items : List Item) → AreSmall items → sum_of weight (declining g n items) ≡ below weight g (g + n) items
-  declining_sum weight zero items s = sym (none_below weight items s)
-  declining_sum weight (suc n) items s =
-      sum_append weight (padded_to g (g + n) items) (declining g n items)
-      ∙ ap (λ x. sum_of weight (padded_to g (g + n) items) + x) (declining_sum weight n items s)
-      ∙ sym (below_step weight g (g + n) items)
-      ∙ ap (λ m. below weight g m items) (let q : suc (g + n) ≡ g + suc n = omega arith in q)
-
-  layout_sum : (weight : Item → ℕ) (items : List Item) → AreSmall items → sum_of weight (declining g (25 - g) items) ≡ sum_of weight items
-  layout_sum weight items s = declining_sum weight (25 - g) items s ∙ all_below weight (g + (25 - g)) items (omega (arith, small)) s
-
-  layout_total : (items : List Item) → AreSmall items → total_of g (declining g (25 - g) items) ≡ total_of g items
-  layout_total items s = total_is g (declining g (25 - g) items) ∙ layout_sum (pad g) items s ∙ sym (total_is g items)
-
-  layout_length : (items : List Item) → AreSmall items → length (declining g (25 - g) items) ≡ length items
-  layout_length items s = length_is (declining g (25 - g) items) ∙ layout_sum (λ i. 1) items s ∙ sym (length_is items)
-
-  -- ---- The order of a layout
-
-  -- the exponents decline, the first is at most m, and each item fits
-  abbrev Declines : (m : ℕ) → List Item → Type 0
-  Declines m [] = Unit {0}
-  Declines m (i ∷ is) = (g ≤ exponent_of g i.length) × (exponent_of g i.length ≤ m) × (exponent_of g i.length ≤ 24) × (i.length ≤ 2 ^ exponent_of g i.length) × Declines (exponent_of g i.length) is
-
-  declines_more : (d m : ℕ) (items : List Item) → d ≤ m → Declines d items → Declines m items
-  declines_more d m [] le h = tt
-  declines_more d m (i ∷ is) le h = (h.0, (let a = h.1 in omega (arith, a, le)), h.2, h.3, h.4)
-
-  declines_class : (d : ℕ) (rest items : List Item) → AreSmall items → Declines d rest → Declines d (padded_to g d items ++ rest)
-  declines_class d rest [] s h = h
-  declines_class d rest (i ∷ is) s h = by (exponent_of g i.length == d) refl (declines_class d rest is s.1 h)
-    where
-      by : (t : Bool) → (exponent_of g i.length == d) ≡ t → Declines d (padded_to g d is ++ rest) → Declines d (cond t (i ∷ padded_to g d is) (padded_to g d is) ++ rest)
-      by false e r = r
-      by true e r =
-          let x = exponents_least g i.length small s.0 in
-          let same = eqb-true (exponent_of g i.length) d e in
-          (x.slot, omega (arith, same), x.least 24 small s.0, x.fits, subst (λ n. Declines n (padded_to g d is ++ rest)) (sym same) r)
-
-  declines_all : (n m : ℕ) (items : List Item) → g + n ≤ suc m → AreSmall items → Declines m (declining g n items)
-  declines_all zero m items le s = tt
-  declines_all (suc n) m items le s =
-      declines_more (g + n) m _ (omega (arith, le)) (declines_class (g + n) (declining g n items) items s (declines_all n (g + n) items (omega arith) s))
-
-  -- ---- The places of a layout
-
-  product_moved : (k q p : ℕ) → k * (q * p) ≡ k * q * p
-  product_moved k q p = grind arith
-
-  product_next : (k p : ℕ) → k * p + p ≡ (k + 1) * p
-  product_next k p = grind arith
-
-  at_multiple : (c m e at : ℕ) → e ≤ m → at ≡ c * 2 ^ m → at ≡ c * 2 ^ (m - e) * 2 ^ e
-  at_multiple c m e at le h =
-      h ∙ ap (λ n. c * 2 ^ n) (let q : m ≡ (m - e) + e = omega (arith, le) in q) ∙ ap (λ n. c * n) (pow-add 2 (m - e) e) ∙ product_moved c (2 ^ (m - e)) (2 ^ e)
-
-  multiple_rest : (k p at : ℕ) → 0 < p → at ≡ k * p → at % p ≡ 0
-  multiple_rest k p at h e = ap (λ x. x % p) (e ∙ (let q : k * p ≡ k * p + 0 = omega arith in q)) ∙ mod-mul-add k p 0 h
-
-  laid_from : (start offset top c m : ℕ) (items : List Item) → start + offset ≡ c * 2 ^ m → Declines m items → STACK_START ≤ start → start + offset + total_of g items ≤ top → top ≤ HEAP_START → IsLaid g start (start + offset) top (placed_from g offset items)
-  laid_from start offset top c m [] is d low within high = omega (arith, within)
-  laid_from start offset top c m (i ∷ rest) is d low within high =
-      let e = exponent_of g i.length in
-      let k = c * 2 ^ (m - e) in
-      let here = at_multiple c m e (start + offset) d.1 is in
-      let next : start + (offset + 2 ^ e) ≡ (k + 1) * 2 ^ e = (let q : start + (offset + 2 ^ e) ≡ start + offset + 2 ^ e = omega arith in q) ∙ ap (λ x. x + 2 ^ e) here ∙ product_next k (2 ^ e) in
-      let one_later : start + (offset + 2 ^ e) ≡ start + offset + 2 ^ e = omega arith in (
-        refl,
+module _ (g : ℕ) (one : 1 ≤ g) (start c m : ℕ) (is : start ≡ c * 2 ^ m) (low : STACK_START ≤ start) where
+  laid_from : (offset to top e : ℕ) (ps : List Placed) → FollowEachOther offset to ps → All (IsAligned g) ps → Decline e ps → e ≤ m → e ≤ 24 → start + to ≤ top → top ≤ HEAP_START → IsLaid g start (start + offset) top ps
+  laid_from offset to top e [] f a d le most within high = omega (arith, f, within)
+  laid_from offset to top e (p ∷ ps) f a d le most within high =
+      let here = All-head (IsAligned g) p ps a in
+      let end = ends_behind (offset + 2 ^ p.exponent) to ps f.1 in
+      let next : start + (offset + 2 ^ p.exponent) ≡ start + offset + 2 ^ p.exponent = omega arith in (
+        ap (λ n. start + n) f.0,
         record {
-          placed = record { slot = one; least = d.0; most = d.2; aligned = multiple_rest k (2 ^ e) (start + offset) (pow_pos e) here; low = omega (arith, low); high = omega (arith, within, high) };
-          fits = d.3;
+          placed = record {
+            slot = one;
+            least = here.exponent.slot;
+            most = omega (arith, d.0, most);
+            aligned = from_start start c m p.exponent p.offset is (omega (arith, d.0, le)) here.aligned;
+            low = omega (arith, low);
+            high = omega (arith, f.0, end, within, high);
+          };
+          fits = here.exponent.fits;
         },
-        subst (λ a. IsLaid g start a top (placed_from g (offset + 2 ^ e) rest)) one_later (laid_from start (offset + 2 ^ e) top (k + 1) e rest next d.4 low (omega (arith, within)) high),
+        subst (λ n. IsLaid g start n top ps) next
+            (laid_from (offset + 2 ^ p.exponent) to top p.exponent ps f.1 (All-tail (IsAligned g) p ps a) d.1 (omega (arith, d.0, le)) (omega (arith, d.0, most)) within high),
       )
 
-  first_declines : (m : ℕ) (items : List Item) → Declines m items → Declines (alignment_of g (placed_from g 0 items)) items
-  first_declines m [] d = tt
-  first_declines m (i ∷ is) d = (d.0, omega arith, d.2, d.3, d.4)
+room_under : (stack total p q start : ℕ) → start ≡ q * p → q * p ≤ stack - total → STACK_START ≤ start → start + total ≤ stack
+room_under stack total p q start e le low = omega (arith, e, le, low)
 
-  room_under : (stack total p q start : ℕ) → start ≡ q * p → q * p ≤ stack - total → 12582912 ≤ start → start + total ≤ stack
-  room_under stack total p q start e le low = omega (arith, e, le, low)
+quotient_under : (n p : ℕ) → n / p * p ≤ n
+quotient_under n p = let d = div-add-mod' n p in omega (arith, d)
 
-  quotient_under : (n p : ℕ) → n / p * p ≤ n
-  quotient_under n p = let d = div-add-mod' n p in omega (arith, d)
-
-  frame_placed : (stack : ℕ) (items order : List Item) → stack ≤ HEAP_START → Declines 24 order → total_of g order ≡ total_of g items
-      → (start : ℕ) → start ≡ (stack - total_of g items) / 2 ^ alignment_of g (placed_from g 0 order) * 2 ^ alignment_of g (placed_from g 0 order)
-      → STACK_START ≤ start → (start ≤ stack) × IsLaid g start start stack (placed_from g 0 order)
-  frame_placed stack items order top d total start is low =
-      let a = alignment_of g (placed_from g 0 order) in
-      let c = (stack - total_of g items) / 2 ^ a in
-      let room = room_under stack (total_of g items) (2 ^ a) c start is (quotient_under (stack - total_of g items) (2 ^ a)) low in
-      let same : start + 0 ≡ start = omega arith in (
-        omega (arith, room),
-        subst (λ x. IsLaid g start x stack (placed_from g 0 order)) same
-            (laid_from start 0 stack c a order (same ∙ is) (first_declines 24 order d) low (omega (arith, room, total)) top),
-      )
-
-  pub frames_alike_at : (stack : ℕ) (items : List Item) → stack ≤ HEAP_START → AreSmall items → FramesAlike g stack items
-  unfolding layout
-  frames_alike_at stack items top s =
-      let order = declining g (25 - g) items in
-      let d = declines_all (25 - g) 24 items (omega (arith, small)) s in
-      let total = layout_total items s in
-      record {
-        count = length_of_placed g 0 order ∙ layout_length items s;
-        number =
-            ap (λ n. (stack - n) / 2 ^ alignment g (exponents (placed_from g 0 order)) * 2 ^ alignment g (exponents (placed_from g 0 order))) (size_of_placed g 0 order ∙ total)
-            ∙ ap (λ a. (stack - total_of g items) / 2 ^ a * 2 ^ a) (alignment_of_placed g 0 order);
-        under = λ low. (frame_placed stack items order top d total _ refl low).0;
-        laid = λ low. (frame_placed stack items order top d total _ refl low).1;
-      }
-
-pub frames_alike : ExponentIsLeast → (g stack : ℕ) (items : List Item) → 1 ≤ g → g ≤ 24 → stack ≤ HEAP_START → AreSmall items → FramesAlike g stack items
-frames_alike exponents_least g stack items one small top s = frames_alike_at exponents_least g one small stack items top s
+pub frames_alike : LayoutsLieWell → (g stack : ℕ) (items : List Item) → 1 ≤ g → g ≤ 24 → stack ≤ HEAP_START → AreSmall items → FramesAlike g stack items
+frames_alike lie_well g stack items one most top small =
+    let ps = layout g items in
+    let well = lie_well g items most small in
+    let a = alignment_of g ps in
+    let total = total_of g items in
+    let c = (stack - total) / 2 ^ a in
+    let start = c * 2 ^ a in
+    let room = room_under stack total (2 ^ a) c start refl (quotient_under (stack - total) (2 ^ a)) in
+    let size : frame_size (exponents ps) ≡ total = let s = size_of_following 0 total ps well.follow in omega (arith, s) in
+    record {
+      count = well.count;
+      number = ap (λ n. (stack - n) / 2 ^ alignment g (exponents ps) * 2 ^ alignment g (exponents ps)) size ∙ ap (λ e. (stack - total) / 2 ^ e * 2 ^ e) (alignment_is g ps);
+      under = λ low. omega (arith, room low);
+      laid = λ low.
+          let same : start + 0 ≡ start = omega arith in
+          subst (λ n. IsLaid g start n stack ps) same
+          (laid_from g one start c a refl low 0 total stack a ps well.follow well.aligned (first_declines g ps well.decline) (omega arith) (alignment_most g ps most well.decline) (room low) top);
+    }

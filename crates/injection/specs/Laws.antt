@@ -18,7 +18,7 @@ use Rattle.size_table.specs.Made.{blocks_from}
 use Rattle.size_table.specs.Pads.{exponent_of}
 use Rattle.size_table.specs.Table as table
 use Rattle.buddy_heap.specs.Places.{place_of}
-use Rattle.block_layout.specs.Layout.{Item, Placed, layout, stack_under}
+use Rattle.block_layout.specs.Layout.{Item, Placed, AreSmall, layout, stack_under}
 use Rattle.source_meaning.specs.declared.values.Pointer.{Pointer}
 use Rattle.source_meaning.specs.declared.values.Pointer.TheVariants.{Null, To}
 use Rattle.source_meaning.specs.declared.values.Value.{Value}
@@ -419,11 +419,6 @@ ExitsKeep =
     → Accounted (caller ++ frame_objects start plan) w.objects → Stays (caller ++ frame_objects start plan) w.objects → Since (caller ++ frame_objects start plan) w.objects
     → Injects g w.objects w.cells u.memory → u.live ≡ live_blocks w.objects → InRegions w.objects
     → Left g caller (all_ended (length plan) (length caller) w) (end_all (reverse (blocks_from start (exponents plan))) u)
-
--- no object has more than 16 MiB
-abbrev pub AreSmall : List Item → Type 0
-AreSmall [] = Unit {0}
-AreSmall (item ∷ items) = (item.length ≤ MOST_BYTES) × AreSmall items
 
 -- A layout has all objects of the frame. Their stack number is that of their blocks; if it is none below the data stack,
 -- they may be laid from there on.

@@ -171,5 +171,5 @@ pub fn exits_keep()
 pub fn frames_are_alike()
     ensures { FramesAreAlike }
 {
-    size_table::laws::exponent_is_least();
+    block_layout::laws::layouts_lie_well();
 }

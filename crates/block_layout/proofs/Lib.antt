@@ -1,0 +1,5 @@
+pub mod Loops
+pub mod Sums
+pub mod Places
+pub mod Small
+pub mod Spots

@@ -1,0 +1,5 @@
+use Rattle.block_layout.proofs.Loops.{small_at}
+use Rattle.block_layout.proofs.object.total_of.Goals as goal
+
+pub exponent-requires : goal.exponent-requires
+exponent-requires c = small_at c.args.objects.now c.loop-object.object-index _ c.requires c.loop-object-test.true
