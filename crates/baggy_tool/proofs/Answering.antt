@@ -31,6 +31,7 @@ pub refused_runs : (text : List ℕ) (n : ℕ) (now : Streams) (error : CompileE
 refused_runs text n now (compile.Lex error) h = (h, refl)
 refused_runs text n now (compile.Parse error) h = (h, refl)
 refused_runs text n now (compile.Typing error) h = (h, refl)
+refused_runs text n now (compile.Layout error) h = (h, refl)
 refused_runs text n now (compile.Lower (lower.TooManyNodes count)) h = (h, refl)
 refused_runs text n now (compile.Lower (lower.TooManyValues name count)) h = (h, refl)
 refused_runs text n now (compile.Lower lower.NotBuilt) h = (h, refl)
@@ -41,6 +42,7 @@ pub refused_compiles : (text : List ℕ) (old new : Told) (faults faults' : ℕ)
 refused_compiles text old new faults faults' (compile.Lex error) h = h
 refused_compiles text old new faults faults' (compile.Parse error) h = h
 refused_compiles text old new faults faults' (compile.Typing error) h = h
+refused_compiles text old new faults faults' (compile.Layout error) h = h
 refused_compiles text old new faults faults' (compile.Lower (lower.TooManyNodes count)) h = h
 refused_compiles text old new faults faults' (compile.Lower (lower.TooManyValues name count)) h = h
 refused_compiles text old new faults faults' (compile.Lower lower.NotBuilt) h = h
@@ -51,9 +53,10 @@ pub refused_checks : (text : List ℕ) (error : CompileError) → Checks text (E
 refused_checks text (compile.Lex error) h = h
 refused_checks text (compile.Parse error) h = h
 refused_checks text (compile.Typing error) h = h
+refused_checks text (compile.Layout error) h = h
 refused_checks text (compile.Lower (lower.TooManyNodes count)) h = h
 refused_checks text (compile.Lower (lower.TooManyValues name count)) h = h
-refused_checks text (compile.Lower lower.NotBuilt) h = absurd h.2
+refused_checks text (compile.Lower lower.NotBuilt) h = absurd h.3
 refused_checks text (compile.Lower lower.Memory) h = h
 refused_checks text compile.Memory h = tt
 

@@ -16,6 +16,8 @@ use Rattle.bb_driver.specs.declared.error.CompileError.{CompileError}
 use Rattle.bb_driver.specs.declared.error.CompileError.TheVariants as compile
 use Rattle.c_rules.specs.declared.error.TypeError.{TypeError}
 use Rattle.c_rules.specs.declared.error.TypeError.TheVariants as typing
+use Rattle.block_layout.specs.declared.error.LayoutError.{LayoutError}
+use Rattle.block_layout.specs.declared.error.LayoutError.TheVariants as layout
 use Rattle.lowering.specs.declared.error.LowerError.{LowerError}
 use Rattle.lowering.specs.declared.error.LowerError.TheVariants as lower
 use Rattle.c_lexer.specs.declared.fault.LexError.{LexError}
@@ -100,6 +102,11 @@ typing_line (typing.TooManyParams line) = numbered (codes "baggy: refused TooMan
 typing_line (typing.TooManyFunctions line) = numbered (codes "baggy: refused TooManyFunctions at line ") line
 typing_line typing.Memory = []
 
+abbrev pub layout_line : LayoutError → List ℕ
+layout_line (layout.GlobalsFull total) = numbered (codes "baggy: refused GlobalsFull total ") total
+layout_line (layout.FrameFull name total) = named (codes "baggy: refused FrameFull ") name (codes " total ") total
+layout_line layout.Memory = []
+
 abbrev pub lower_line : LowerError → List ℕ
 lower_line (lower.TooManyNodes count) = numbered (codes "baggy: refused TooManyNodes count ") count
 lower_line (lower.TooManyValues name count) = named (codes "baggy: refused TooManyValues ") name (codes " count ") count
@@ -110,6 +117,7 @@ abbrev pub compile_line : CompileError → List ℕ
 compile_line (compile.Lex error) = lex_line error
 compile_line (compile.Parse error) = parse_line error
 compile_line (compile.Typing error) = typing_line error
+compile_line (compile.Layout error) = layout_line error
 compile_line (compile.Lower error) = lower_line error
 compile_line compile.Memory = []
 

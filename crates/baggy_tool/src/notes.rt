@@ -87,6 +87,14 @@ pub(crate) fn put_numbered<E: Sink>(
     ensures noted { Noted result (numbered text.now number) (E.written notes.old) (E.written notes.new) }
     ensures cause { HasCause (E.faults notes.old) (E.faults notes.new) result }
 {
+    put_total(notes, text, u64::from(number))
+}
+
+/// Writes a text, a number of up to 64 bits and a line feed.
+pub(crate) fn put_total<E: Sink>(notes: &mut E, text: &[u8], number: u64) -> Result<(), SinkFailed>
+    ensures noted { Noted result (numbered text.now number) (E.written notes.old) (E.written notes.new) }
+    ensures cause { HasCause (E.faults notes.old) (E.faults notes.new) result }
+{
     let mut buffer = Buffer::new();
     put(notes, text)?;
     put_both(notes, buffer.format(number).as_bytes(), b"\n")

@@ -1,13 +1,14 @@
 //! The line that is noted of a refusal.
 ghost use Rattle.std.specs.Prelude.{◌≡◌, codes, decimal};
 ghost use Rattle.bb_outside.specs.Causes.{HasCause};
-ghost use Rattle.baggy_tool.specs.Endings.{refusal_line, compile_line, image_line, lex_line, parse_line, typing_line, lower_line, named};
+ghost use Rattle.baggy_tool.specs.Endings.{refusal_line, compile_line, image_line, lex_line, parse_line, typing_line, layout_line, lower_line, named};
 ghost use Rattle.baggy_tool.specs.Notes.{Noted};
 
 use crate::ending::Refusal;
-use crate::notes::{put, put_both, put_numbered, put_two};
+use crate::notes::{put, put_both, put_numbered, put_total, put_two};
 use bb_driver::error::CompileError;
 use bb_outside::{Sink, SinkFailed};
+use block_layout::error::LayoutError;
 use c_lexer::LexError;
 use c_parser::ParseError;
 use c_rules::error::TypeError;
@@ -35,6 +36,7 @@ fn note_compile_error<E: Sink>(notes: &mut E, error: &CompileError) -> Result<()
         CompileError::Lex(error) => note_lex_error(notes, *error),
         CompileError::Parse(error) => note_parse_error(notes, *error),
         CompileError::Typing(error) => note_type_error(notes, error),
+        CompileError::Layout(error) => note_layout_error(notes, error),
         CompileError::Lower(error) => note_lower_error(notes, error),
         CompileError::Memory => Ok(()),
     }
@@ -125,6 +127,28 @@ fn note_type_error<E: Sink>(notes: &mut E, error: &TypeError) -> Result<(), Sink
     }
 }
 
+fn note_layout_error<E: Sink>(notes: &mut E, error: &LayoutError) -> Result<(), SinkFailed>
+    ensures noted { Noted result (layout_line error.now) (E.written notes.old) (E.written notes.new) }
+    ensures cause { HasCause (E.faults notes.old) (E.faults notes.new) result }
+{
+    match error {
+        LayoutError::GlobalsFull { total } => {
+            put_total(notes, b"baggy: refused GlobalsFull total ", *total)
+        }
+        LayoutError::FrameFull { function, total } => {
+            let name = function.as_slice();
+            put_named_total(
+                notes,
+                b"baggy: refused FrameFull ",
+                name,
+                b" total ",
+                *total,
+            )
+        }
+        LayoutError::Memory => Ok(()),
+    }
+}
+
 fn note_lower_error<E: Sink>(notes: &mut E, error: &LowerError) -> Result<(), SinkFailed>
     ensures noted { Noted result (lower_line error.now) (E.written notes.old) (E.written notes.new) }
     ensures cause { HasCause (E.faults notes.old) (E.faults notes.new) result }
@@ -180,8 +204,22 @@ fn put_named<E: Sink>(
     ensures noted { Noted result (named text.now name.now second.now number) (E.written notes.old) (E.written notes.new) }
     ensures cause { HasCause (E.faults notes.old) (E.faults notes.new) result }
 {
+    put_named_total(notes, text, name, second, u64::from(number))
+}
+
+// The same with a number of up to 64 bits.
+fn put_named_total<E: Sink>(
+    notes: &mut E,
+    text: &[u8],
+    name: &[u8],
+    second: &[u8],
+    number: u64,
+) -> Result<(), SinkFailed>
+    ensures noted { Noted result (named text.now name.now second.now number) (E.written notes.old) (E.written notes.new) }
+    ensures cause { HasCause (E.faults notes.old) (E.faults notes.new) result }
+{
     put_both(notes, text, name)?;
-    put_numbered(notes, second, number)
+    put_total(notes, second, number)
 }
 
 // Writes a text and a number, and a line.

@@ -7,3 +7,4 @@ pub mod Reading
 pub mod Images
 pub mod Unique
 pub mod OneRefusal
+pub mod Frames

@@ -3,15 +3,18 @@ use Rattle.std.proofs.Common.{◌≡◌, ℕ, zero, suc, ◌<◌, ◌+◌, List,
 use Rattle.std.specs.Prelude.{All, map, replicate, slice_get, slice_index}
 use Rattle.std.proofs.lemmas.Bool.{true≢false}
 use Rattle.std.proofs.lemmas.List.{length-map, replicate_more}
-use Rattle.std.proofs.lemmas.List.Elements.{All-from_get_or}
+use Rattle.std.proofs.lemmas.List.Elements.{All-from_get_or, All-nil}
 use Rattle.c_typed.specs.TypedTree.{CProgram}
 use Rattle.c_typed.specs.Typed.{Typed}
 use Rattle.size_table.specs.Made.{blocks_from}
 use Rattle.size_table.specs.declared.memory_map.TheConstants.{GLOBALS_START}
 use Rattle.source_meaning.specs.Objects.{Object}
+use Rattle.source_meaning.specs.Runs.{outcome}
 use Rattle.source_meaning.specs.Worlds as source
 use Rattle.source_meaning.specs.Worlds.{Line, Moved}
-use Rattle.mid_code.specs.Code.{Function}
+use Rattle.mid_code.specs.Code.{Function, Program}
+use Rattle.mid_code.specs.Meaning.{Came, Strayed}
+use Rattle.mid_code.specs.Safe.{Safe, IsSiteOf}
 use Rattle.mid_code.specs.Formed.{Formed}
 use Rattle.mid_code.specs.Runs as mid
 use Rattle.lowering.specs.Built.{IsBuilt}
@@ -53,6 +56,14 @@ all_checked : (os : List Object) (marks : List source.Mark) → SafeSitesHold no
 all_checked os [] = tt
 all_checked os (Line line ∷ marks) = all_checked os marks
 all_checked os (Moved site from to ∷ marks) = (λ e. absurd (true≢false (sym e)), all_checked os marks)
+
+-- and so no move strays from its site's object
+pub none_safe : (p : CProgram) (code : Program) → Keeps p code → Safe code []
+none_safe p code keeps = record {
+  rising = tt;
+  moves = All-nil (IsSiteOf code);
+  never = λ g slot input m fine strayed. absurd (let q : Came (outcome g p input m).ending ≡ Strayed = sym (keeps.runs g input m).ending ∙ strayed in cc);
+}
 
 no_globals : (g : ℕ) → AreGlobals g []
 no_globals g = record { exponents = []; are = refl; decline = tt; fit = omega arith }

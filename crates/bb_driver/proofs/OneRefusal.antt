@@ -16,6 +16,10 @@ use Rattle.c_rules.specs.declared.error.TypeError.TheVariants as typing
 use Rattle.c_typed.specs.TypedTree.{CProgram, CFunction}
 use Rattle.c_typed.specs.Counts.{values_of}
 use Rattle.c_typing.specs.Units.{typed_unit}
+use Rattle.block_layout.specs.Answers as room
+use Rattle.block_layout.specs.Answers.{ObjectsFit, DoNotFit}
+use Rattle.block_layout.specs.declared.error.LayoutError.{LayoutError}
+use Rattle.block_layout.specs.declared.error.LayoutError.TheVariants as layout
 use Rattle.lowering.specs.declared.error.LowerError.{LowerError}
 use Rattle.lowering.specs.declared.error.LowerError.TheVariants as lower
 use Rattle.lowering.specs.Lowers.{counted, IsFirstFull}
@@ -64,6 +68,22 @@ one_limit p lower.Memory f x y = absurd x
 one_limit p e lower.NotBuilt x y = absurd y
 one_limit p e lower.Memory x y = absurd y
 
+one_full_frame : (fs : List CFunction) (a b : List ℕ) (n m : ℕ) → room.IsFirstFull fs a n → room.IsFirstFull fs b m → (a ≡ b) × (n ≡ m)
+one_full_frame fs a b n m x y =
+    let place = one_first (λ (f : CFunction). room.frame_bytes f ≤ room.most_frame_bytes) fs x.number y.number x.function y.function x.found y.found x.before y.before (λ few. not_both _ _ few x.full) (λ few. not_both _ _ few y.full) in
+    let same : x.function ≡ y.function = same_Some x.function y.function (sym x.found ∙ ap (slice_get fs) place ∙ y.found) in
+    (x.named ∙ ap (λ (f : CFunction). f.name) same ∙ sym y.named, x.counts ∙ ap (λ (f : CFunction). room.counted (room.frame_bytes f)) same ∙ sym y.counts)
+
+one_room : (p : CProgram) (e f : LayoutError) → DoNotFit p e → DoNotFit p f → e ≡ f
+one_room p (layout.GlobalsFull n) (layout.GlobalsFull m) x y = ap (λ k. layout.GlobalsFull k) (x.1 ∙ sym y.1)
+one_room p (layout.GlobalsFull n) (layout.FrameFull b m) x y = absurd (not_both _ _ y.0 x.0)
+one_room p (layout.FrameFull a n) (layout.GlobalsFull m) x y = absurd (not_both _ _ x.0 y.0)
+one_room p (layout.FrameFull a n) (layout.FrameFull b m) x y =
+    let same = one_full_frame p.functions a b n m x.1 y.1 in
+    ap (λ name. layout.FrameFull name n) same.0 ∙ ap (λ k. layout.FrameFull b k) same.1
+one_room p layout.Memory f x y = absurd x
+one_room p e layout.Memory x y = absurd y
+
 -- ---- The layers
 
 abbrev parse_error : Refusal → (token line : ℕ) → ParseError
@@ -75,7 +95,8 @@ data Layer (text : List ℕ) (e : CompileError) : Type 0 where
   tokens : (f : LexError) → e ≡ compile.Lex f → Lexes text (Err f) → Layer text e
   grammar : (why : Refusal) (token line : ℕ) → e ≡ compile.Parse (parse_error why token line) → FailsAt text why token line → Layer text e
   types : (f : TypeError) → e ≡ compile.Typing f → FailsToType text f → Layer text e
-  limits : (p : CProgram) (f : LowerError) → e ≡ compile.Lower f → Means text p → PassesLimit p f → Layer text e
+  objects : (p : CProgram) (f : LayoutError) → e ≡ compile.Layout f → Means text p → DoNotFit p f → Layer text e
+  limits : (p : CProgram) (f : LowerError) → e ≡ compile.Lower f → Means text p → ObjectsFit p → PassesLimit p f → Layer text e
 
 fails_to_lex : (text : List ℕ) (e : LexError) → Refuses text (compile.Lex e) → Lexes text (Err e)
 fails_to_lex text lex.Memory h = absurd h
@@ -91,7 +112,8 @@ layer_of text (compile.Parse (parse.Syntax token line)) h = grammar Refusal.Synt
 layer_of text (compile.Parse (parse.TooDeep token line)) h = grammar Refusal.TooDeep token line refl h
 layer_of text (compile.Parse parse.Memory) h = absurd h
 layer_of text (compile.Typing f) h = types f refl (fails_to_type text f h)
-layer_of text (compile.Lower f) h = limits h.0 f refl h.1 h.2
+layer_of text (compile.Layout f) h = objects h.0 f refl h.1 h.2
+layer_of text (compile.Lower f) h = limits h.0 f refl h.1 h.2 h.3
 layer_of text compile.Memory h = absurd h
 
 module _ (reading : HasOneReading) (unit : HasOneUnit) (fine : IsNotRefused) (one : HasOneRefusal) where
@@ -120,23 +142,38 @@ module _ (reading : HasOneReading) (unit : HasOneUnit) (fine : IsNotRefused) (on
   one_passed : (text : List ℕ) (p q : CProgram) (e f : LowerError) → Means text p → PassesLimit p e → Means text q → PassesLimit q f → e ≡ f
   one_passed text p q e f x past y past' = one_limit q e f (subst (λ (r : CProgram). PassesLimit r e) (unique.one_program reading unit fine text p q x y) past) past'
 
+  one_not_fitting : (text : List ℕ) (p q : CProgram) (e f : LayoutError) → Means text p → DoNotFit p e → Means text q → DoNotFit q f → e ≡ f
+  one_not_fitting text p q e f x past y past' = one_room q e f (subst (λ (r : CProgram). DoNotFit r e) (unique.one_program reading unit fine text p q x y) past) past'
+
+  not_both_fit : (text : List ℕ) (p q : CProgram) (e : LayoutError) → Means text p → DoNotFit p e → Means text q → ObjectsFit q → ⊥
+  not_both_fit text p q e x past y fit = unique.no_room q e fit (subst (λ (r : CProgram). DoNotFit r e) (unique.one_program reading unit fine text p q x y) past)
+
   one_layer : (text : List ℕ) (e f : CompileError) → Layer text e → Layer text f → e ≡ f
   one_layer text e f (tokens a is x) (tokens b is' y) = is ∙ ap (λ (z : LexError). compile.Lex z) (one_lex_error text a b x y) ∙ sym is'
   one_layer text e f (tokens a is x) (grammar why n line is' y) = absurd (not_lexed text y.0 a y.1 x)
   one_layer text e f (tokens a is x) (types b is' y) = absurd (not_lexed text y.1.0 a y.1.1 x)
-  one_layer text e f (tokens a is x) (limits p b is' y past) = absurd (not_lexed text y.1.0 a y.1.1 x)
+  one_layer text e f (tokens a is x) (objects p b is' y past) = absurd (not_lexed text y.1.0 a y.1.1 x)
+  one_layer text e f (tokens a is x) (limits p b is' y fit past) = absurd (not_lexed text y.1.0 a y.1.1 x)
   one_layer text e f (grammar why n line is x) (tokens b is' y) = absurd (not_lexed text x.0 b x.1 y)
   one_layer text e f (grammar r n j is x) (grammar s m k is' y) = is ∙ ap (λ (z : ParseError). compile.Parse z) (one_failure text r s n m j k x y) ∙ sym is'
   one_layer text e f (grammar why n line is x) (types b is' y) = absurd (not_failed text y.0 why n line y.1 x)
-  one_layer text e f (grammar why n line is x) (limits p b is' y past) = absurd (not_failed text y.0 why n line y.1 x)
+  one_layer text e f (grammar why n line is x) (objects p b is' y past) = absurd (not_failed text y.0 why n line y.1 x)
+  one_layer text e f (grammar why n line is x) (limits p b is' y fit past) = absurd (not_failed text y.0 why n line y.1 x)
   one_layer text e f (types a is x) (tokens b is' y) = absurd (not_lexed text x.1.0 b x.1.1 y)
   one_layer text e f (types a is x) (grammar why n line is' y) = absurd (not_failed text x.0 why n line x.1 y)
   one_layer text e f (types a is x) (types b is' y) = is ∙ ap (λ (z : TypeError). compile.Typing z) (one_type_error text a b x y) ∙ sym is'
-  one_layer text e f (types a is x) (limits p b is' y past) = absurd (not_typed text p a y x)
-  one_layer text e f (limits p a is x past) (tokens b is' y) = absurd (not_lexed text x.1.0 b x.1.1 y)
-  one_layer text e f (limits p a is x past) (grammar why n line is' y) = absurd (not_failed text x.0 why n line x.1 y)
-  one_layer text e f (limits p a is x past) (types b is' y) = absurd (not_typed text p b x y)
-  one_layer text e f (limits p a is x past) (limits q b is' y past') = is ∙ ap (λ (z : LowerError). compile.Lower z) (one_passed text p q a b x past y past') ∙ sym is'
+  one_layer text e f (types a is x) (objects p b is' y past) = absurd (not_typed text p a y x)
+  one_layer text e f (types a is x) (limits p b is' y fit past) = absurd (not_typed text p a y x)
+  one_layer text e f (objects p a is x past) (tokens b is' y) = absurd (not_lexed text x.1.0 b x.1.1 y)
+  one_layer text e f (objects p a is x past) (grammar why n line is' y) = absurd (not_failed text x.0 why n line x.1 y)
+  one_layer text e f (objects p a is x past) (types b is' y) = absurd (not_typed text p b x y)
+  one_layer text e f (objects p a is x past) (objects q b is' y past') = is ∙ ap (λ (z : LayoutError). compile.Layout z) (one_not_fitting text p q a b x past y past') ∙ sym is'
+  one_layer text e f (objects p a is x past) (limits q b is' y fit past') = absurd (not_both_fit text p q a x past y fit)
+  one_layer text e f (limits p a is x fit past) (tokens b is' y) = absurd (not_lexed text x.1.0 b x.1.1 y)
+  one_layer text e f (limits p a is x fit past) (grammar why n line is' y) = absurd (not_failed text x.0 why n line x.1 y)
+  one_layer text e f (limits p a is x fit past) (types b is' y) = absurd (not_typed text p b x y)
+  one_layer text e f (limits p a is x fit past) (objects q b is' y past') = absurd (not_both_fit text q p b y past' x fit)
+  one_layer text e f (limits p a is x fit past) (limits q b is' y fit' past') = is ∙ ap (λ (z : LowerError). compile.Lower z) (one_passed text p q a b x past y past') ∙ sym is'
 
   pub one_refusal : (text : List ℕ) (e f : CompileError) → Refuses text e → Refuses text f → e ≡ f
   one_refusal text e f x y = one_layer text e f (layer_of text e x) (layer_of text f y)

@@ -14,13 +14,14 @@ use Rattle.c_rules.specs.declared.error.TypeError.{TypeError}
 use Rattle.c_rules.specs.declared.error.TypeError.TheVariants as typing
 use Rattle.c_typed.specs.TypedTree.{CProgram}
 use Rattle.c_typing.specs.Units.{typed_unit}
+use Rattle.block_layout.specs.Answers.{ObjectsFit}
 use Rattle.mid_code.specs.declared.code.Mid.{Mid}
 use Rattle.lowering.specs.declared.error.LowerError.{LowerError}
 use Rattle.lowering.specs.declared.error.LowerError.TheVariants as lower
 use Rattle.lowering.specs.Lowers.{IsLowered}
 use Rattle.bb_driver.specs.declared.error.CompileError.{CompileError}
 use Rattle.bb_driver.specs.declared.error.CompileError.TheVariants as compile
-use Rattle.bb_driver.specs.Sources.{Means, Accepts, ReadsProgram, Checks, of_lower, limit_of, Reads, of_lex, of_parse, of_typing}
+use Rattle.bb_driver.specs.Sources.{Means, Accepts, ReadsProgram, LaysOut, Checks, of_lower, limit_of, Reads, of_lex, of_parse, of_typing}
 use Rattle.bb_driver.specs.Compiles.{Compiles}
 
 -- what the lexer refuses is refused, and so on
@@ -48,30 +49,48 @@ typing_refuses text tree (typing.TooLarge line n) r h = (tree, r, h)
 typing_refuses text tree (typing.TooManyParams line) r h = (tree, r, h)
 typing_refuses text tree (typing.TooManyFunctions line) r h = (tree, r, h)
 
--- a program that has code is within the limits, and so is one that is not built
-pub coded : (text : List ℕ) (p : CProgram) (mid : Mid) → Means text p → IsLowered p (Ok mid) → Accepts text p
-coded text p mid means h = (means, record { nodes = h.0; values = h.1 })
+-- what has no room is refused
+pub room_checks : (text : List ℕ) (p : CProgram) (e : CompileError) → Means text p → LaysOut p (Err e) → Checks text (Err e)
+room_checks text p (compile.Layout e) means h = (p, means, h)
+room_checks text p compile.Memory means h = tt
+room_checks text p (compile.Lex e) means h = absurd h
+room_checks text p (compile.Parse e) means h = absurd h
+room_checks text p (compile.Typing e) means h = absurd h
+room_checks text p (compile.Lower e) means h = absurd h
 
-pub not_built : (text : List ℕ) (p : CProgram) → Means text p → IsLowered p (Err lower.NotBuilt) → Accepts text p
-not_built text p means h = (means, record { nodes = h.0; values = h.1 })
+pub room_compiles : (text : List ℕ) (p : CProgram) (e : CompileError) → Means text p → LaysOut p (Err e) → Compiles text (Err e)
+room_compiles text p (compile.Layout e) means h = (p, means, h)
+room_compiles text p compile.Memory means h = tt
+room_compiles text p (compile.Lex e) means h = absurd h
+room_compiles text p (compile.Parse e) means h = absurd h
+room_compiles text p (compile.Typing e) means h = absurd h
+room_compiles text p (compile.Lower e) means h = absurd h
+
+-- a program that has code is within the limits, and so is one that is not built
+pub coded : (text : List ℕ) (p : CProgram) (mid : Mid) → Means text p → ObjectsFit p → IsLowered p (Ok mid) → Accepts text p
+coded text p mid means fit h = (means, record { objects = fit; nodes = h.0; values = h.1 })
+
+pub not_built : (text : List ℕ) (p : CProgram) → Means text p → ObjectsFit p → IsLowered p (Err lower.NotBuilt) → Accepts text p
+not_built text p means fit h = (means, record { objects = fit; nodes = h.0; values = h.1 })
 
 -- what lowering refuses is refused
-pub limit_checks : (text : List ℕ) (p : CProgram) (e : LowerError) → Means text p → IsLowered p (Err e) → Checks text (limit_of e)
-limit_checks text p (lower.TooManyNodes count) means h = (p, means, h)
-limit_checks text p (lower.TooManyValues name count) means h = (p, means, h)
-limit_checks text p lower.NotBuilt means h = (p, not_built text p means h)
-limit_checks text p lower.Memory means h = tt
+pub limit_checks : (text : List ℕ) (p : CProgram) (e : LowerError) → Means text p → ObjectsFit p → IsLowered p (Err e) → Checks text (limit_of e)
+limit_checks text p (lower.TooManyNodes count) means fit h = (p, means, fit, h)
+limit_checks text p (lower.TooManyValues name count) means fit h = (p, means, fit, h)
+limit_checks text p lower.NotBuilt means fit h = (p, not_built text p means fit h)
+limit_checks text p lower.Memory means fit h = tt
 
-pub lower_compiles : (text : List ℕ) (p : CProgram) (e : LowerError) → Means text p → IsLowered p (Err e) → Compiles text (Err (of_lower e))
-lower_compiles text p (lower.TooManyNodes count) means h = (p, means, h)
-lower_compiles text p (lower.TooManyValues name count) means h = (p, means, h)
-lower_compiles text p lower.NotBuilt means h = (p, not_built text p means h, h.2)
-lower_compiles text p lower.Memory means h = tt
+pub lower_compiles : (text : List ℕ) (p : CProgram) (e : LowerError) → Means text p → ObjectsFit p → IsLowered p (Err e) → Compiles text (Err (of_lower e))
+lower_compiles text p (lower.TooManyNodes count) means fit h = (p, means, fit, h)
+lower_compiles text p (lower.TooManyValues name count) means fit h = (p, means, fit, h)
+lower_compiles text p lower.NotBuilt means fit h = (p, not_built text p means fit h, h.2)
+lower_compiles text p lower.Memory means fit h = tt
 
 -- and so is a text that has no program
 pub unread_compiles : (text : List ℕ) (e : CompileError) → ReadsProgram text (Err e) → Compiles text (Err e)
 unread_compiles text (compile.Lex error) h = h
 unread_compiles text (compile.Parse error) h = h
 unread_compiles text (compile.Typing error) h = h
+unread_compiles text (compile.Layout error) h = absurd h
 unread_compiles text (compile.Lower error) h = absurd h
 unread_compiles text compile.Memory h = tt

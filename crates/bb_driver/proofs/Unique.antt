@@ -17,6 +17,9 @@ use Rattle.c_parser.specs.declared.parser.ParseError.TheVariants as parse
 use Rattle.c_typed.specs.TypedTree.{CProgram, CFunction}
 use Rattle.c_typed.specs.Counts.{values_of}
 use Rattle.c_typing.specs.Units.{typed_unit}
+use Rattle.block_layout.specs.Answers.{ObjectsFit, DoNotFit, frame_bytes, most_frame_bytes}
+use Rattle.block_layout.specs.declared.error.LayoutError.{LayoutError}
+use Rattle.block_layout.specs.declared.error.LayoutError.TheVariants as layout
 use Rattle.lowering.specs.declared.error.LowerError.{LowerError}
 use Rattle.lowering.specs.declared.error.LowerError.TheVariants as lower
 use Rattle.lowering.specs.Built.{is_built, IsBuilt}
@@ -44,6 +47,15 @@ no_error {A} {E} x f e = true≢false (ap is_value e)
 -- what holds of each element holds of the one that is found
 of_found : {A : Type 0} (P : A → Type 0) (xs : List A) (k : ℕ) (x : A) → All P xs → slice_get xs k ≡ Some x → P x
 of_found P xs k x all e = subst P (get_or_from_slice_get xs k x x e) (all k x (slice_get_within xs k x e))
+
+-- objects that have room are not refused
+pub no_room : (p : CProgram) (e : LayoutError) → ObjectsFit p → DoNotFit p e → ⊥
+no_room p (layout.GlobalsFull total) fit h = let few = fit.globals in let many = h.0 in absurd (omega (arith, few, many))
+no_room p (layout.FrameFull name total) fit h =
+    let most = of_found (λ (f : CFunction). frame_bytes f ≤ most_frame_bytes) p.functions h.1.number h.1.function fit.frames h.1.found in
+    let more = h.1.full in
+    absurd (omega (arith, most, more))
+no_room p layout.Memory fit h = h
 
 module _ (reading : HasOneReading) (unit : HasOneUnit) (fine : IsNotRefused) where
   pub tokens_are : (text : List ℕ) (a b : List Lexeme) → Lexes text (Ok a) → Lexes text (Ok b) → a ≡ b
@@ -92,7 +104,8 @@ module _ (reading : HasOneReading) (unit : HasOneUnit) (fine : IsNotRefused) whe
   not_refused text p (compile.Typing (typing.TooLarge l n)) a h = not_typed text p (typing.TooLarge l n) a h
   not_refused text p (compile.Typing (typing.TooManyParams l)) a h = not_typed text p (typing.TooManyParams l) a h
   not_refused text p (compile.Typing (typing.TooManyFunctions l)) a h = not_typed text p (typing.TooManyFunctions l) a h
-  not_refused text p (compile.Lower f) a h = within p f text a (subst (λ q. PassesLimit q f) (one_program text h.0 p h.1 a.0) h.2)
+  not_refused text p (compile.Layout f) a h = no_room p f a.1.objects (subst (λ q. DoNotFit q f) (one_program text h.0 p h.1 a.0) h.2)
+  not_refused text p (compile.Lower f) a h = within p f text a (subst (λ q. PassesLimit q f) (one_program text h.0 p h.1 a.0) h.3)
   not_refused text p compile.Memory a h = h
 
   pub one_answer : ((text : List ℕ) (e f : CompileError) → Refuses text e → Refuses text f → e ≡ f) → HasOneAnswer
@@ -106,6 +119,7 @@ module _ (one : HasOneAnswer) (text : List ℕ) (p : CProgram) (accepted : Accep
   is_answered (Err (compile.Lex f)) h = absurd (one.answer text p (compile.Lex f) accepted h)
   is_answered (Err (compile.Parse f)) h = absurd (one.answer text p (compile.Parse f) accepted h)
   is_answered (Err (compile.Typing f)) h = absurd (one.answer text p (compile.Typing f) accepted h)
+  is_answered (Err (compile.Layout f)) h = absurd (one.answer text p (compile.Layout f) accepted h)
   is_answered (Err (compile.Lower (lower.TooManyNodes n))) h = absurd (one.answer text p (compile.Lower (lower.TooManyNodes n)) accepted h)
   is_answered (Err (compile.Lower (lower.TooManyValues x n))) h = absurd (one.answer text p (compile.Lower (lower.TooManyValues x n)) accepted h)
   is_answered (Err (compile.Lower lower.Memory)) h = absurd (one.answer text p (compile.Lower lower.Memory) accepted h)

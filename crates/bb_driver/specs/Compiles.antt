@@ -1,8 +1,11 @@
 -- What compiling a text answers.
-use Rattle.std.specs.Prelude.{◌≡◌, ℕ, false, List, [], length, replicate, Result, Ok, Err}
+use Rattle.std.specs.Prelude.{◌≡◌, ℕ, false, List, [], length, map, replicate, Result, Ok, Err}
 use Rattle.c_typed.specs.TypedTree.{CProgram}
+use Rattle.c_typed.specs.Counts.{nodes_of_program}
+use Rattle.block_layout.specs.Answers.{IsLayout}
 use Rattle.injection.specs.Trail.{SafeSites}
 use Rattle.mid_code.specs.Code.{Program}
+use Rattle.mid_code.specs.Safe.{Safe, site_of}
 use Rattle.mid_code.specs.Views.{program_of}
 use Rattle.bounds_instr.specs.Code.{global_blocks, instrumented}
 use Rattle.bounds_instr.specs.Keeps.{Keeps}
@@ -34,10 +37,15 @@ pub record IsImageOf (text : List ℕ) (image : Image) : Type 0 where
   pub right : Right SLOT_EXPONENT program no_sites image
   pub shape : HasShape image.text
 
--- The image is right for the program of the text, and was made of this mid code, which means what the program means.
+-- The image is right for the program of the text, and was made of this mid code, which means what the program means. Of the
+-- moves in that code none is left unchecked. Layout and number of nodes are those of the program.
 pub record IsCompiled (text : List ℕ) (compiled : Compiled) : Type 0 where
   pub image : IsImageOf text compiled.image
+  pub layout : IsLayout image.program compiled.layout
   pub code : IsCode image.program (program_of compiled.mid)
+  pub safe : Safe (program_of compiled.mid) (map site_of compiled.safe.sites)
+  pub unchecked : compiled.safe.sites ≡ []
+  pub nodes : compiled.nodes ≡ nodes_of_program image.program
 
 -- The image is right for the program of the text, or the text is refused, or its program is not built.
 abbrev pub Compiles : List ℕ → Result Compiled CompileError → Type 0

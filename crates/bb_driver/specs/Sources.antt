@@ -16,6 +16,10 @@ use Rattle.c_typed.specs.Typed.{Typed, HasLines}
 use Rattle.c_typed.specs.TypedViews.{program_of}
 use Rattle.c_typed.specs.declared.typed.Program.{Program as TypedProgram}
 use Rattle.c_typing.specs.Units.{typed_unit}
+use Rattle.block_layout.specs.Answers.{ObjectsFit, DoNotFit, IsLayout}
+use Rattle.block_layout.specs.declared.error.LayoutError.{LayoutError}
+use Rattle.block_layout.specs.declared.error.LayoutError.TheVariants as layout
+use Rattle.block_layout.specs.declared.globals.Layout.{Layout}
 use Rattle.lowering.specs.declared.error.LowerError.{LowerError}
 use Rattle.lowering.specs.declared.error.LowerError.TheVariants as lower
 use Rattle.lowering.specs.Lowers.{most_nodes, counted, IsFirstFull}
@@ -35,8 +39,9 @@ Reads text tree = (tokens : List Lexeme) × Lexes text (Ok tokens) × Derives wi
 abbrev pub Means : List ℕ → CProgram → Type 0
 Means text p = (tree : UnitTree) × Reads text tree × (typed_unit tree ≡ Ok p)
 
--- the program has at most 4,096 nodes, and no function too many values
+-- the program's objects have room, it has at most 4,096 nodes, and no function too many values
 pub record IsWithinLimits (p : CProgram) : Type 0 where
+  pub objects : ObjectsFit p
   pub nodes : nodes_of_program p ≤ most_nodes
   pub values : HasRoom p
 
@@ -64,7 +69,7 @@ PassesLimit p (lower.TooManyValues name count) = (nodes_of_program p ≤ most_no
 PassesLimit p lower.NotBuilt = ⊥
 PassesLimit p lower.Memory = ⊥
 
--- the text is refused so: by tokens, grammar, typing and limits, in this order
+-- the text is refused so: by tokens, grammar, typing, room for objects and other limits, in this order
 abbrev pub Refuses : List ℕ → CompileError → Type 0
 Refuses text (compile.Lex lex.Memory) = ⊥
 Refuses text (compile.Lex error) = Lexes text (Err error)
@@ -73,7 +78,8 @@ Refuses text (compile.Parse (parse.TooDeep token line)) = FailsAt text Refusal.T
 Refuses text (compile.Parse parse.Memory) = ⊥
 Refuses text (compile.Typing typing.Memory) = ⊥
 Refuses text (compile.Typing error) = FailsToType text error
-Refuses text (compile.Lower error) = (p : CProgram) × Means text p × PassesLimit p error
+Refuses text (compile.Layout error) = (p : CProgram) × Means text p × DoNotFit p error
+Refuses text (compile.Lower error) = (p : CProgram) × Means text p × ObjectsFit p × PassesLimit p error
 Refuses text compile.Memory = ⊥
 
 -- the text is accepted, but its program has a form that is not built
@@ -95,6 +101,10 @@ abbrev pub of_typing : TypeError → CompileError
 of_typing typing.Memory = compile.Memory
 of_typing error = compile.Typing error
 
+abbrev pub of_layout : LayoutError → CompileError
+of_layout layout.Memory = compile.Memory
+of_layout error = compile.Layout error
+
 abbrev pub of_lower : LowerError → CompileError
 of_lower lower.Memory = compile.Memory
 of_lower error = compile.Lower error
@@ -108,8 +118,16 @@ limit_of error = Err (of_lower error)
 abbrev pub ReadsProgram : List ℕ → Result TypedProgram CompileError → Type 0
 ReadsProgram text (Ok program) = Means text (program_of program) × Typed (program_of program) × HasLines (program_of program)
 ReadsProgram text (Err compile.Memory) = Unit {0}
+ReadsProgram text (Err (compile.Layout error)) = ⊥
 ReadsProgram text (Err (compile.Lower error)) = ⊥
 ReadsProgram text (Err error) = Refuses text error
+
+-- the layout of the program's global objects, where all its objects have room; or which have none
+abbrev pub LaysOut : CProgram → Result Layout CompileError → Type 0
+LaysOut p (Ok l) = ObjectsFit p × IsLayout p l
+LaysOut p (Err compile.Memory) = Unit {0}
+LaysOut p (Err (compile.Layout error)) = DoNotFit p error
+LaysOut p (Err error) = ⊥
 
 -- the text is accepted, or refused so
 abbrev pub Checks : List ℕ → Result Unit CompileError → Type 0

@@ -8,9 +8,13 @@ ghost use Rattle.bb_driver.specs.Compiles.{Compiles, IsAnswered};
 use crate::error::CompileError;
 use crate::image::image_of;
 use crate::laws::{layers_make_right, one_answer};
-use crate::source::read;
+use crate::source::{lay_out, read};
+use bb_words::list::List;
+use block_layout::globals::Layout;
+use lowering::limits::nodes_of;
 use lowering::lower::lower;
 use mid_code::code::Mid;
+use mid_code::safe::SafeSites;
 use rv_image::image::Image;
 use std::alloc::Global;
 
@@ -19,13 +23,19 @@ use std::alloc::Global;
 pub struct Compiled {
     /// The image, which is right for the program of the text.
     pub image: Image,
-    /// The mid code that it was made of.
+    /// Where the program's global objects lie.
+    pub layout: Layout,
+    /// The mid code that the image was made of.
     pub mid: Mid,
+    /// The pointer moves of the mid code that the image does not check: none.
+    pub safe: SafeSites,
+    /// How many nodes the program has.
+    pub nodes: u32,
 }
 
 /// The image of a text: the text is accepted, and the image is right for its program. So each of its runs is safe, and does
-/// what the program means. Or the first refusal of tokens, grammar, typing and limits, in this order; or the program is
-/// accepted and has a form that is not built.
+/// what the program means. Or the first refusal of tokens, grammar, typing, room for objects and other limits, in this order;
+/// or the program is accepted and has a form that is not built.
 pub fn compile(alloc: Global, text: &[u8]) -> Result<Compiled, CompileError>
     requires { length text.now < 2 ^ 32 }
     ensures answers { Compiles text.now result }
@@ -50,7 +60,16 @@ fn image_or_refusal(alloc: Global, text: &[u8]) -> Result<Compiled, CompileError
     select_runs::laws::selection_runs();
     select_runs::laws::calm_is_in_reach();
     let program = read(alloc, text)?;
+    let layout = lay_out(alloc, &program)?;
     let mid = lower(alloc, &program)?;
     let image = image_of(alloc, &mid)?;
-    Ok(Compiled { image, mid })
+    Ok(Compiled {
+        image,
+        layout,
+        mid,
+        safe: SafeSites {
+            sites: List::new(alloc),
+        },
+        nodes: nodes_of(program.functions.as_slice()),
+    })
 }

@@ -1,4 +1,5 @@
 //! Why a source has no image.
+use block_layout::error::LayoutError;
 use c_lexer::LexError;
 use c_parser::ParseError;
 use c_rules::error::TypeError;
@@ -18,6 +19,9 @@ pub enum CompileError {
     /// The file breaks a rule of typing (C11 6.5 to 6.9).
     #[error("the file breaks a rule of typing")]
     Typing(TypeError),
+    /// The objects of the program have too many bytes.
+    #[error(transparent)]
+    Layout(LayoutError),
     /// The program passes a limit of the compiler, or has a form that is not built.
     #[error(transparent)]
     Lower(LowerError),
@@ -75,6 +79,20 @@ impl From<TypeError> for CompileError {
         match error {
             TypeError::Memory => CompileError::Memory,
             error => CompileError::Typing(error),
+        }
+    }
+}
+
+impl From<LayoutError> for CompileError {
+    ghost use Rattle.std.specs.Prelude.{◌≡◌};
+    ghost use Rattle.bb_driver.specs.Sources.{of_layout};
+
+    ghost from_gives = { λ error e. e ≡ of_layout error };
+
+    fn from(error: LayoutError) -> CompileError {
+        match error {
+            LayoutError::Memory => CompileError::Memory,
+            error => CompileError::Layout(error),
         }
     }
 }

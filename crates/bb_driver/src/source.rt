@@ -1,8 +1,13 @@
 //! From a text to its typed program.
 ghost use Rattle.std.specs.Prelude.{◌≡◌, ◌<◌, ◌^◌, length};
-ghost use Rattle.bb_driver.specs.Sources.{ReadsProgram, Checks, limit_of};
+ghost use Rattle.c_typed.specs.Typed.{Typed};
+ghost use Rattle.c_typed.specs.TypedViews.{program_of};
+ghost use Rattle.bb_driver.specs.Sources.{ReadsProgram, LaysOut, Checks, limit_of};
 
 use crate::error::CompileError;
+use block_layout::frame::frame;
+use block_layout::globals::{Layout, globals};
+use block_layout::laws::typed_has_small_objects;
 use c_lexer::lex;
 use c_parser::parse;
 use c_places::text_is_in_range;
@@ -23,6 +28,20 @@ pub fn read(alloc: Global, text: &[u8]) -> Result<Program, CompileError>
     Ok(type_unit(alloc, &unit)?)
 }
 
+/// Where the global objects of a typed program lie; or the first of its objects that have no room: the global ones, or the block
+/// locals of a function.
+pub fn lay_out(alloc: Global, program: &Program) -> Result<Layout, CompileError>
+    requires { Typed (program_of program.now) }
+    ensures { LaysOut (program_of program.now) result }
+{
+    typed_has_small_objects();
+    let layout = globals(alloc, program)?;
+    for function in program.functions.as_slice() {
+        frame(alloc, function)?;
+    }
+    Ok(layout)
+}
+
 /// What a limit refuses; what is only not built is accepted.
 fn limit_of(error: LowerError) -> Result<(), CompileError>
     ensures { result ≡ limit_of error }
@@ -39,6 +58,7 @@ pub fn check(alloc: Global, text: &[u8]) -> Result<(), CompileError>
     ensures { Checks text.now result }
 {
     let program = read(alloc, text)?;
+    lay_out(alloc, &program)?;
     match lower(alloc, &program) {
         Ok(_) => Ok(()),
         Err(error) => limit_of(error),

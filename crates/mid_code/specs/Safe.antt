@@ -1,6 +1,7 @@
 -- Moves that are taken as safe: sites, each with the object that its moves stay in.
 use Rattle.std.specs.Prelude.{◌≡◌, ◌≢◌, ◌==◌, ◌⊎◌, ℕ, suc, ◌<◌, ◌≤◌, if◌then◌else◌, All, List, [], ◌∷◌, Some, None, slice_get}
 use Rattle.mid_code.specs.declared.code.MidObject.{MidObject}
+use Rattle.mid_code.specs.declared.safe.SafeSite.{SafeSite}
 use Rattle.mid_code.specs.Code.{Step, Move, MoveBy, If, Block, Loop, Steps, stop, step, Function, Program}
 use Rattle.mid_code.specs.Formed.{IsObject}
 use Rattle.mid_code.specs.Meaning.{Strayed, Watch}
@@ -10,6 +11,10 @@ use Rattle.mid_code.specs.Runs.{mid, outcome_of}
 pub record Site : Type 0 where
   pub site : ℕ
   pub object : MidObject
+
+-- the site that a `SafeSite` stands for
+abbrev pub site_of : SafeSite → Site
+site_of s = record { site = s.site; object = s.object }
 
 -- these sites are watched
 abbrev pub watch_of : List Site → Watch

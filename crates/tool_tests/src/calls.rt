@@ -430,11 +430,18 @@ fn programs_talk(rt: HostRuntime) -> Result<(), Fail> {
     Ok(())
 }
 
-// A main of so many locals that returns this.
-fn locals(alloc: Global, count: u32, returned: &str) -> Result<String, AllocError> {
-    let mut text = String::from_str(alloc, "int main(void) {")?;
+// A file that declares this, and has a main of so many locals of this form, which returns this.
+fn locals(
+    alloc: Global,
+    declared: &str,
+    count: u32,
+    local: &str,
+    returned: &str,
+) -> Result<String, AllocError> {
+    let mut text = String::from_str(alloc, declared)?;
+    text.push_str("int main(void) {")?;
     for _ in 0..count {
-        text.push_str("{ int x; }")?;
+        text.push_str(local)?;
     }
     text.push_str("return ")?;
     text.push_str(returned)?;
@@ -444,27 +451,77 @@ fn locals(alloc: Global, count: u32, returned: &str) -> Result<String, AllocErro
 
 const FULL: &str = "baggy: refused TooManyValues main count 251\n";
 
-// How many locals, what main returns, the status and the note: a layer that comes first refuses first.
-const LAYERS: [(u32, &str, u8, &str); 6] = [
-    (246, "0", 0, ""),
-    (247, "0", 124, FULL),
-    (247, "*(int *)0", 124, FULL),
-    (247, "y", 124, "baggy: refused Unknown y at line 1\n"),
-    (
-        247,
-        "y +",
-        124,
-        "baggy: refused Syntax token 1244 at line 1\n",
-    ),
-    (247, "y + @", 124, "baggy: refused BadByte at line 1\n"),
+const GLOBALS_FULL: &str = "baggy: refused GlobalsFull total 2097168\n";
+
+// A byte more than the global objects may have.
+const GLOBALS: &str = "char a[1048576], b[1048576], c; ";
+
+// What is declared at file scope, what main returns besides having 247 locals, and the note: a layer that comes
+// first refuses first.
+const LAYERS: [(&str, &str, &str); 7] = [
+    ("", "0", FULL),
+    ("", "*(int *)0", FULL),
+    (GLOBALS, "0", GLOBALS_FULL),
+    (GLOBALS, "y", "baggy: refused Unknown y at line 1\n"),
+    ("", "y", "baggy: refused Unknown y at line 1\n"),
+    ("", "y +", "baggy: refused Syntax token 1244 at line 1\n"),
+    ("", "y + @", "baggy: refused BadByte at line 1\n"),
 ];
 
 #[test]
 fn layers_refuse_in_order(rt: HostRuntime) -> Result<(), Fail> {
-    for (count, returned, ended, noted) in &LAYERS {
-        let text = locals(rt.alloc(), *count, returned)?;
+    let text = locals(rt.alloc(), "", 246, "{ int x; }", "0")?;
+    let got = status(rt.alloc(), &["run", "f.c"], text.as_bytes(), "")?;
+    assert_eq!(rt; got, Some(0));
+    for (declared, returned, noted) in &LAYERS {
+        let text = locals(rt.alloc(), declared, 247, "{ int x; }", returned)?;
         let got = status(rt.alloc(), &["run", "f.c"], text.as_bytes(), noted)?;
-        assert_eq!(rt; got, Some(*ended), "{count} {returned}");
+        assert_eq!(rt; got, Some(124), "{declared} {returned}");
+    }
+    Ok(())
+}
+
+// What is declared at file scope, how many arrays of 1 MiB main has, what it returns, the status of `check` and the note: the
+// global objects may have 2 MiB with their padding, a string among them, and the locals of a function that lie in memory 4 MiB.
+const OBJECTS: [(&str, u32, &str, u8, &str); 6] = [
+    ("char a[1048576], b[1048576]; ", 4, "0", 0, ""),
+    (GLOBALS, 0, "0", 124, GLOBALS_FULL),
+    (
+        "char a[1048576], b[524289]; ",
+        0,
+        "\"x\" == 0",
+        124,
+        GLOBALS_FULL,
+    ),
+    (
+        "",
+        5,
+        "0",
+        124,
+        "baggy: refused FrameFull main total 5242880\n",
+    ),
+    (GLOBALS, 5, "0", 124, GLOBALS_FULL),
+    (
+        "int f(void) { char a[1048576], b[1048576], c[1048576], d[1048576], e[1]; return 0; } ",
+        5,
+        "0",
+        124,
+        "baggy: refused FrameFull f total 4194320\n",
+    ),
+];
+
+#[test]
+fn objects_have_room(rt: HostRuntime) -> Result<(), Fail> {
+    for (declared, count, returned, ended, noted) in &OBJECTS {
+        let text = locals(
+            rt.alloc(),
+            declared,
+            *count,
+            "{ char x[1048576]; }",
+            returned,
+        )?;
+        let got = status(rt.alloc(), &["check", "f.c"], text.as_bytes(), noted)?;
+        assert_eq!(rt; got, Some(*ended), "{declared} {count} {returned}");
     }
     Ok(())
 }

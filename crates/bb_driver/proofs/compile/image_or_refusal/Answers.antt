@@ -1,19 +1,28 @@
 use Rattle.bounds_instr.specs.Code.{global_blocks}
-use Rattle.std.proofs.Common.{◌≡◌, true, sym, subst, []}
+use Rattle.std.specs.Prelude.{map}
+use Rattle.std.proofs.Common.{◌≡◌, true, sym, ap, subst, [], arith}
 use Rattle.std.proofs.lemmas.Result.{err_from_is_err_and}
-use Rattle.c_typed.specs.TypedViews.{program_of}
+use Rattle.c_typed.specs.TypedViews.{function_of, program_of}
+use Rattle.c_typed.specs.Counts.{nodes_of_functions}
 use Rattle.mid_code.specs.Formed.{Formed}
+use Rattle.mid_code.specs.Safe.{Safe, site_of}
+use Rattle.mid_code.specs.Views as mid
 use Rattle.lowering.specs.Keeps.{Keeps}
 use Rattle.bounds_instr.specs.Built as instr
 use Rattle.bb_driver.specs.Compiles.{IsMade}
-use Rattle.bb_driver.proofs.Made.{MadeLaws, right}
-use Rattle.bb_driver.proofs.Reading.{coded, lower_compiles}
+use Rattle.bb_driver.proofs.Made.{MadeLaws, none_safe, right}
+use Rattle.bb_driver.proofs.Reading.{room_compiles, coded, lower_compiles}
 use Rattle.bb_driver.proofs.compile.image_or_refusal.Goals as goal
+
+pub returns-in_err-layout : goal.returns-in_err-layout
+returns-in_err-layout c =
+    let q = err_from_is_err_and c.from_residual-in_err-layout.result c.from_residual-in_err-layout.ensures.1 in
+    rw (q.1, q.2) (room_compiles c.args.text.now (program_of c.in_ok-program.program) c.in_err-layout.field-0.0 c.in_ok-program.ensures.0 c.in_err-layout.ensures)
 
 pub returns-in_err-mid : goal.returns-in_err-mid
 returns-in_err-mid c =
     let q = err_from_is_err_and c.from_residual-in_err-mid.result c.from_residual-in_err-mid.ensures.1 in
-    rw (q.1, q.2) (lower_compiles c.args.text.now (program_of c.in_ok-program.program) c.in_err-mid.field-0.0 c.in_ok-program.ensures.0 c.in_err-mid.ensures)
+    rw (q.1, q.2) (lower_compiles c.args.text.now (program_of c.in_ok-program.program) c.in_err-mid.field-0.0 c.in_ok-program.ensures.0 c.in_ok-layout.ensures.0 c.in_err-mid.ensures)
 
 pub image_of-requires-clause-built : goal.image_of-requires-clause-built
 image_of-requires-clause-built c =
@@ -37,10 +46,14 @@ returns c =
     record {
       image = record {
         program = p;
-        accepted = coded c.args.text.now p c.in_ok-mid.mid read.0 c.in_ok-mid.ensures;
+        accepted = coded c.args.text.now p c.in_ok-mid.mid read.0 c.in_ok-layout.ensures.0 c.in_ok-mid.ensures;
         built = c.in_ok-mid.ensures.2;
         right = right laws p image read.1 c.in_ok-mid.ensures.2 (subst Formed code.is code.formed) (subst (λ q. IsMade q image) code.is c.in_ok-image.ensures) (subst (Keeps p) code.is code.keeps);
         shape = c.in_ok-image.ensures.shape;
       };
+      layout = c.in_ok-layout.ensures.1;
       code = code;
+      safe = subst (λ sites. Safe (mid.program_of c.in_ok-mid.mid) (map site_of sites)) (sym c.new.ensures) (none_safe p (mid.program_of c.in_ok-mid.mid) code.keeps);
+      unchecked = c.new.ensures;
+      nodes = omega (arith, c.nodes_of.ensures, c.in_ok-mid.ensures.0, ap (λ fs. nodes_of_functions (map function_of fs)) c.as_slice.ensures);
     }

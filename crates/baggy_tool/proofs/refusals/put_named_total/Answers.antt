@@ -1,6 +1,6 @@
 use Rattle.std.proofs.lemmas.Result.{err_from_is_err_and}
 use Rattle.baggy_tool.proofs.Noting.{noted_then, cut_first}
-use Rattle.baggy_tool.proofs.refusals.put_named.Goals as goal
+use Rattle.baggy_tool.proofs.refusals.put_named_total.Goals as goal
 
 pub returns-in_err-put_both-clause-noted : goal.returns-in_err-put_both-clause-noted
 returns-in_err-put_both-clause-noted g c =
@@ -8,4 +8,4 @@ returns-in_err-put_both-clause-noted g c =
     rw (p.1) (cut_first _ _ _ _ c.in_err-put_both.ensures.noted)
 
 pub returns-clause-noted : goal.returns-clause-noted
-returns-clause-noted g c = noted_then _ _ _ _ _ _ c.in_ok-put_both.ensures.noted c.put_numbered.ensures.noted
+returns-clause-noted g c = noted_then _ _ _ _ _ _ c.in_ok-put_both.ensures.noted c.put_total.ensures.noted

@@ -1,7 +1,7 @@
 use Rattle.std.proofs.Common.{◌∙◌}
 use Rattle.std.proofs.lemmas.Result.{err_from_is_err_and}
 use Rattle.baggy_tool.proofs.Noting.{noted_then, cut_first}
-use Rattle.baggy_tool.proofs.notes.put_numbered.Goals as goal
+use Rattle.baggy_tool.proofs.notes.put_total.Goals as goal
 
 pub returns-in_err-put-clause-noted : goal.returns-in_err-put-clause-noted
 returns-in_err-put-clause-noted g c =
