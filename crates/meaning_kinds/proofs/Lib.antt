@@ -1,0 +1,12 @@
+pub mod ValueKinds
+pub mod Acts
+pub mod Places
+pub mod Operators
+pub mod Finding
+pub mod Settings
+pub mod Changes
+pub mod Expressions
+pub mod Initials
+pub mod Statements
+pub mod Calls
+pub mod Untyped
