@@ -28,7 +28,7 @@ filled_above : (m : List ℕ) (at count byte i : ℕ) → at + count ≤ length 
 unfolding filled
 filled_above m at count byte i le past = search (arith, places)
 
-filled_other : (m : List ℕ) (at count byte i : ℕ) → at + count ≤ length m → (i < at) ⊎ (at + count ≤ i) → get_or (filled m at count byte) i 0 ≡ get_or m i 0
+pub filled_other : (m : List ℕ) (at count byte i : ℕ) → at + count ≤ length m → (i < at) ⊎ (at + count ≤ i) → get_or (filled m at count byte) i 0 ≡ get_or m i 0
 filled_other m at count byte i le (inl lt) = filled_below m at count byte i le lt
 filled_other m at count byte i le (inr past) = filled_above m at count byte i le past
 

@@ -20,6 +20,7 @@ pub mod EventsTold
 pub mod RunTells
 pub mod BlockMemory
 pub mod TableMemory
+pub mod Decoding
 pub mod Starts
 pub mod Cases
 pub mod Answering

@@ -1,5 +1,6 @@
 pub mod State
 pub mod Instruction
+pub mod Decoded
 pub mod Frames
 pub mod Environment
 pub mod Machine

@@ -1,14 +1,14 @@
 //! The registers, the program counter and the memory, and the instructions on them.
-ghost use Rattle.std.specs.Prelude.{◌≡◌, ◌+◌, ◌*◌, ◌/◌, ◌%◌, ◌<◌, ◌≤◌, ◌^◌, Bool, List, [], ◌∷◌, length, slice_index, IfOk, IfSome};
+ghost use Rattle.std.specs.Prelude.{◌≡◌, ◌+◌, ◌*◌, ◌/◌, ◌%◌, ◌<◌, ◌≤◌, ◌^◌, Bool, List, [], ◌∷◌, length, slice_index, vec_len, IfOk, IfSome};
 ghost use Rattle.std.specs.Int.{to_le_bytes, w16, w32};
 ghost use Rattle.rv_code.specs.Bits.{extended};
 ghost use Rattle.rv_code.specs.Code.{Fits};
 ghost use Rattle.rv_image.specs.Rules.{IsImage};
+ghost use Rattle.rv_machine.specs.Start.{start_memory};
+ghost use Rattle.size_table.specs.declared.memory_map.TheConstants.{MEMORY_END};
 
 use crate::access::{signed_byte, signed_half, trap_of};
-use crate::memory::{
-    clear_in_table, half_at, set_in_table, word_at, write_bytes, write_table, write_words, zeros,
-};
+use crate::memory::{Memory, half_at, word_at, write_bytes, write_table, write_words, zeros};
 use crate::stop::{Effect, Pause};
 use bb_words::kinds::TrapKind;
 use bb_words::word::Word;
@@ -22,30 +22,47 @@ use std::marker::Model;
 // Where the size table's bytes for the global blocks begin: it has one for 16 bytes.
 const FIRST_ENTRY: usize = 0x2A_0000;
 
+// The bytes of the memory at the start of an image.
+#[tactic(auto, unfolding(crate::specs::Start::start_memory))]
+fn start_bytes(alloc: Global, image: &Image) -> Result<Vec<u8>, AllocError>
+    requires { IsImage image.now }
+    ensures items { IfOk result (λ memory. memory.items ≡ start_memory image.now) }
+    ensures len { IfOk result (λ memory. vec_len memory ≡ MEMORY_END) }
+{
+    let mut memory = zeros(alloc)?;
+    write_words(&mut memory, TEXT_START as usize, image.text.as_slice());
+    write_table(&mut memory, FIRST_ENTRY, image.globals.as_slice());
+    write_bytes(
+        &mut memory,
+        GLOBALS_START as usize,
+        image.initial.as_slice(),
+    );
+    Ok(memory)
+}
+
 /// The machine without its environment.
 #[derive(Drop)]
 pub struct Core {
-    pc: u32,
+    // The program counter, as a number of words.
+    place: u32,
     registers: Vec<u32>,
-    memory: Vec<u8>,
+    memory: Memory,
 }
 
 impl Model for Core {
-    ghost use Rattle.std.specs.Prelude.{◌≡◌, vec_len};
-    ghost use Rattle.size_table.specs.declared.memory_map.TheConstants.{MEMORY_END};
+    ghost use Rattle.std.specs.Prelude.{◌≡◌, ◌*◌, ◌<◌, vec_len};
     ghost use Rattle.rv_machine.specs.State.{Core as CoreState};
 
     ghost Value = { CoreState };
 
-    ghost view = { λ c. record { pc = c.pc; registers = c.registers.items; memory = c.memory.items } };
+    ghost view = { λ c. record { pc = 4 * c.place; registers = c.registers.items; memory = c.memory } };
 
-    ghost invariant = { λ c. (vec_len c.registers ≡ 32) × (vec_len c.memory ≡ MEMORY_END) };
+    ghost invariant = { λ c. (vec_len c.registers ≡ 32) × (c.place < 1073741824) };
 }
 
 impl Core {
     ghost use Rattle.size_table.specs.declared.memory_map.TheConstants.{TABLE_START, MEMORY_END};
     ghost use Rattle.size_table.specs.Blocks.{Block, IsBlock, block_at};
-    ghost use Rattle.size_table.specs.Table.{filled};
     ghost use Rattle.size_table.specs.Made.{made, ended};
     ghost use Rattle.size_table.specs.Memory.{half_at, word_at};
     ghost use Rattle.rv_machine.specs.State.{register_of, set_register, next, gives, with_memory};
@@ -56,24 +73,18 @@ impl Core {
     ghost use Rattle.rv_machine.specs.Runs.{Shown, Ran, Paused, running};
 
     /// The core at the start of an image. It takes all memory that the machine ever needs.
-    #[tactic(auto, unfolding(crate::specs::Start::start, crate::specs::Start::start_memory))]
+    #[tactic(auto, unfolding(crate::specs::Start::start))]
     pub(crate) fn new(alloc: Global, image: &Image) -> Result<Core, AllocError>
         requires { IsImage image.now }
         ensures { IfOk result (λ core. core ≡ (start image.now).core) }
     {
-        let mut memory = zeros(alloc)?;
-        write_words(&mut memory, TEXT_START as usize, image.text.as_slice());
-        write_table(&mut memory, FIRST_ENTRY, image.globals.as_slice());
-        write_bytes(
-            &mut memory,
-            GLOBALS_START as usize,
-            image.initial.as_slice(),
-        );
+        let bytes = start_bytes(alloc, image)?;
+        let memory = Memory::new(alloc, bytes, image.text.len())?;
         let mut registers = vec![in alloc; 0u32; 32]?;
         registers[2] = GLOBALS_START;
         registers[31] = TABLE_START;
         Ok(Core {
-            pc: image.entry,
+            place: image.entry / 4,
             registers,
             memory,
         })
@@ -82,7 +93,7 @@ impl Core {
     pub(crate) fn pc(&self) -> u32
         ensures { result ≡ self.now.pc }
     {
-        self.pc
+        4 * self.place
     }
 
     pub(crate) fn register(&self, at: u8) -> u32
@@ -96,26 +107,59 @@ impl Core {
         requires { at < MEMORY_END }
         ensures { result ≡ slice_index self.now.memory at }
     {
-        self.memory[at as usize]
+        self.memory.bytes()[at as usize]
     }
 
     /// At most n instructions, up to one that is trapped or asks the environment.
-    ///
-    /// The core is taken and given back, so that the loop has a copy of its own: its program counter stays in a register,
-    /// and no write to the memory can reach it or the registers. It is one function for all sources and sinks.
-    #[inline(never)]
     pub(crate) fn go(mut self, n: u64) -> (Core, Pause)
         ensures ran { (frames : Frames) (heap : List Block) (o : Shown) → Ran (steps result.1.went) (running self frames heap) o (running result.0 frames heap) o }
         ensures pause { Paused result.1.effect n result.1.went result.0 }
     {
-        for went in 0..n {
+        let mut went = 0;
+        while went < n {
+            let (core, more) = self.go_decoded(n - went);
+            self = core;
+            went += more;
+            if went >= n {
+                let effect = Effect::Went;
+                return (self, Pause { went: n, effect });
+            }
             match self.step() {
-                Effect::Went => {}
-                effect => return (self, Pause { went, effect }),
+                Effect::Went => went += 1,
+                Effect::Trapped { kind } => {
+                    let effect = Effect::Trapped { kind };
+                    return (self, Pause { went, effect });
+                }
+                Effect::Asked => {
+                    let effect = Effect::Asked;
+                    return (self, Pause { went, effect });
+                }
             }
         }
         let effect = Effect::Went;
         (self, Pause { went: n, effect })
+    }
+
+    // At most n instructions of those that are decoded, up to one that does not go: how many went.
+    //
+    // The core is taken and given back, so that the loop has a copy of its own: its program counter stays in a register,
+    // and no write to the memory can reach it or the registers. It is one function for all sources and sinks.
+    #[inline(never)]
+    fn go_decoded(mut self, n: u64) -> (Core, u64)
+        ensures ran { (frames : Frames) (heap : List Block) (o : Shown) → Ran (steps result.1) (running self frames heap) o (running result.0 frames heap) o }
+        ensures within { result.1 ≤ n }
+    {
+        for went in 0..n {
+            match self.memory.decoded(self.place) {
+                None => return (self, went),
+                Some(instr) => match self.execute(instr) {
+                    Effect::Went => {}
+                    Effect::Trapped { .. } => return (self, went),
+                    Effect::Asked => return (self, went),
+                },
+            }
+        }
+        (self, n)
     }
 
     /// One instruction, up to a question to the environment.
@@ -125,12 +169,13 @@ impl Core {
         ensures does { Does self.old self.new result (core_step self.old) }
         ensures in_text { result ≡ Effect.Asked → self.new.pc < TABLE_START }
     {
-        if self.pc < TEXT_START || self.pc >= TABLE_START {
+        let pc = self.pc();
+        if pc < TEXT_START || pc >= TABLE_START {
             return Effect::Trapped {
                 kind: TrapKind::Fetch,
             };
         }
-        match decode(Word(word_at(&self.memory, self.pc as usize))) {
+        match decode(Word(word_at(self.memory.bytes(), self.pc() as usize))) {
             None => Effect::Trapped {
                 kind: TrapKind::Illegal,
             },
@@ -144,7 +189,7 @@ impl Core {
         ensures value { result ≡ instruction_at self.now }
         ensures fits { IfSome result Fits }
     {
-        decode(Word(word_at(&self.memory, self.pc as usize)))
+        decode(Word(word_at(self.memory.bytes(), self.pc() as usize)))
     }
 
     // The table of the instructions, a row for each.
@@ -156,8 +201,8 @@ impl Core {
     {
         match instr {
             Instr::Lui { rd, imm } => self.put(rd, Word(imm)),
-            Instr::Auipc { rd, imm } => self.put(rd, Word(self.pc).add(Word(imm))),
-            Instr::Jal { rd, imm } => self.link(rd, Word(self.pc).add(Word(imm)).0),
+            Instr::Auipc { rd, imm } => self.put(rd, Word(self.pc()).add(Word(imm))),
+            Instr::Jal { rd, imm } => self.link(rd, Word(self.pc()).add(Word(imm)).0),
             Instr::Jalr { rd, rs1, imm } => self.link(rd, 2 * (self.address(rs1, imm) / 2)),
             Instr::Beq { rs1, rs2, imm } => {
                 let (left, right) = (self.register(rs1), self.register(rs2));
@@ -281,7 +326,7 @@ impl Core {
                 kind: TrapKind::Fetch,
             };
         }
-        self.pc = to;
+        self.place = to / 4;
         Effect::Went
     }
 
@@ -291,7 +336,7 @@ impl Core {
         requires in_text { self.old.pc < TABLE_START }
         ensures { Does self.old self.new result (links rd to self.old) }
     {
-        let next = self.pc + 4;
+        let next = self.pc() + 4;
         let effect = self.jump(to);
         if effect == Effect::Went {
             self.set(rd, next);
@@ -304,7 +349,7 @@ impl Core {
         ensures { Does self.old self.new result (branches taken imm self.old) }
     {
         if taken {
-            self.jump(Word(self.pc).add(Word(imm)).0)
+            self.jump(Word(self.pc()).add(Word(imm)).0)
         } else {
             self.pass();
             Effect::Went
@@ -319,7 +364,7 @@ impl Core {
         match trap_of(at, 1) {
             Some(kind) => Effect::Trapped { kind },
             None => {
-                let value = signed_byte(self.memory[at as usize]);
+                let value = signed_byte(self.memory.bytes()[at as usize]);
                 self.put(rd, Word(value))
             }
         }
@@ -333,7 +378,7 @@ impl Core {
         match trap_of(at, 2) {
             Some(kind) => Effect::Trapped { kind },
             None => {
-                let value = signed_half(half_at(&self.memory, at as usize));
+                let value = signed_half(half_at(self.memory.bytes(), at as usize));
                 self.put(rd, Word(value))
             }
         }
@@ -347,7 +392,7 @@ impl Core {
         match trap_of(at, 4) {
             Some(kind) => Effect::Trapped { kind },
             None => {
-                let value = word_at(&self.memory, at as usize);
+                let value = word_at(self.memory.bytes(), at as usize);
                 self.put(rd, Word(value))
             }
         }
@@ -361,7 +406,7 @@ impl Core {
         match trap_of(at, 1) {
             Some(kind) => Effect::Trapped { kind },
             None => {
-                let value = self.memory[at as usize] as u32;
+                let value = self.memory.bytes()[at as usize] as u32;
                 self.put(rd, Word(value))
             }
         }
@@ -375,7 +420,7 @@ impl Core {
         match trap_of(at, 2) {
             Some(kind) => Effect::Trapped { kind },
             None => {
-                let value = half_at(&self.memory, at as usize) as u32;
+                let value = half_at(self.memory.bytes(), at as usize) as u32;
                 self.put(rd, Word(value))
             }
         }
@@ -388,7 +433,7 @@ impl Core {
         match trap_of(at, 1) {
             Some(kind) => Effect::Trapped { kind },
             None => {
-                self.memory[at as usize] = (value % 256) as u8;
+                self.memory.put_byte(at, (value % 256) as u8);
                 self.pass();
                 Effect::Went
             }
@@ -403,7 +448,7 @@ impl Core {
             Some(kind) => Effect::Trapped { kind },
             None => {
                 let bytes = ((value % 65536) as u16).to_le_bytes();
-                write_bytes(&mut self.memory, at as usize, &bytes);
+                self.memory.put_bytes(at, &bytes);
                 self.pass();
                 Effect::Went
             }
@@ -418,7 +463,7 @@ impl Core {
             Some(kind) => Effect::Trapped { kind },
             None => {
                 let bytes = value.to_le_bytes();
-                write_bytes(&mut self.memory, at as usize, &bytes);
+                self.memory.put_bytes(at, &bytes);
                 self.pass();
                 Effect::Went
             }
@@ -432,7 +477,7 @@ impl Core {
         ensures { self.new ≡ gives rd value self.old }
     {
         self.set(rd, value);
-        self.pc += 4;
+        self.place += 1;
     }
 
     // A register gets a value; register 0 stays 0.
@@ -450,15 +495,7 @@ impl Core {
         requires { self.old.pc < TABLE_START }
         ensures { self.new ≡ next self.old }
     {
-        self.pc += 4;
-    }
-
-    #[tactic(auto, unfolding(size_table::specs::Table::filled))]
-    fn fill(&mut self, at: usize, count: usize, byte: u8)
-        requires { at + count ≤ MEMORY_END }
-        ensures { self.new ≡ with_memory (filled self.old.memory at count byte) self.old }
-    {
-        self.memory[at..at + count].fill(byte);
+        self.place += 1;
     }
 
     /// Makes a block: its bytes are zero, and the size table has its exponent.
@@ -467,8 +504,8 @@ impl Core {
         requires { IsBlock 4 (block_at base exponent) }
         ensures { self.new ≡ with_memory (made (block_at base exponent) self.old.memory) self.old }
     {
-        self.fill(base as usize, 1 << exponent, 0);
-        set_in_table(&mut self.memory, base, exponent);
+        self.memory.fill(base as usize, 1 << exponent, 0);
+        self.memory.set_in_table(base, exponent);
     }
 
     /// Ends a block: the size table has 0 for it, and its bytes stay.
@@ -477,6 +514,6 @@ impl Core {
         requires { IsBlock 4 (block_at base exponent) }
         ensures { self.new ≡ with_memory (ended (block_at base exponent) self.old.memory) self.old }
     {
-        clear_in_table(&mut self.memory, base, exponent);
+        self.memory.clear_in_table(base, exponent);
     }
 }

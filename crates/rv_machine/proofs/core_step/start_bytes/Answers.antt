@@ -1,7 +1,7 @@
 use Rattle.std.proofs.Common.{ℕ, List, length, ap, arith, lit<}
 use Rattle.size_table.specs.Memory.{table_bytes}
 use Rattle.rv_machine.proofs.Tables.{table_length, exponents_decline}
-use Rattle.rv_machine.proofs.core_step.Core.new.Goals as goal
+use Rattle.rv_machine.proofs.core_step.start_bytes.Goals as goal
 
 pub write_table-requires-clause-exponents : goal.write_table-requires-clause-exponents
 write_table-requires-clause-exponents c =
