@@ -1,24 +1,22 @@
 //! `baggy`: it makes the real input, output, notes and files, calls the tool, and ends with its status.
 #![tactic(auto)]
 
-mod files;
-mod streams;
-
 ghost use Rattle.std.specs.Prelude.{◌≡◌, drop, map};
 ghost use Rattle.std.specs.Process.{exit_status};
 ghost use Rattle.std.specs.String.{string_bytes};
 ghost use Rattle.baggy_tool.specs.Calls.{Meets, files, streams, noting};
 
 use baggy_tool::ending::Ended;
+use baggy_tool::notes::put;
 use baggy_tool::run::baggy_run;
-use bb_outside::{Shelf, Sink, SinkFailed, Source};
-use files::DirShelf;
+use bb_host::files::DirShelf;
+use bb_host::streams::{StderrSink, StdinSource, StdoutSink};
+use bb_outside::{Shelf, Sink, Source};
 use std::alloc::Global;
 use std::env;
 use std::io::{self, Stderr, Stdin, Stdout};
 use std::process::ExitCode;
 use std::rt::{Env, Files};
-use streams::{StderrSink, StdinSource, StdoutSink};
 
 /// The status where the words can't be read: memory was wanting, or a word is no UTF-8.
 const NO_WORDS: u8 = 127;
@@ -30,7 +28,7 @@ fn main(rt: HostRuntime) -> ExitCode {
     let alloc = rt.alloc();
     let mut notes = StderrSink::new(rt.stderr());
     let Ok(words) = words(alloc, &rt) else {
-        let _ = put_all(&mut notes, NO_MEMORY);
+        let _ = put(&mut notes, NO_MEMORY);
         return ExitCode::from(NO_WORDS);
     };
     let mut shelf = DirShelf::new(alloc, &rt);
@@ -57,10 +55,16 @@ fn call<'a, R: Files>(
     notes: &mut StderrSink<Stderr>,
 ) -> Ended
     ensures { Meets (map string_bytes words.now)
-        (files (⟦<DirShelf<'a, R> as Shelf>⟧.file shelf.old) (⟦<DirShelf<'a, R> as Shelf>⟧.faults shelf.old) (⟦<DirShelf<'a, R> as Shelf>⟧.misses shelf.old))
-        (files (⟦<DirShelf<'a, R> as Shelf>⟧.file shelf.new) (⟦<DirShelf<'a, R> as Shelf>⟧.faults shelf.new) (⟦<DirShelf<'a, R> as Shelf>⟧.misses shelf.new))
-        (streams (⟦<StdinSource<Stdin> as Source>⟧.left input.old) (⟦<StdinSource<Stdin> as Source>⟧.is_over input.old) (⟦<StdinSource<Stdin> as Source>⟧.faults input.old) (⟦<StdoutSink<Stdout> as Sink>⟧.written output.old) (⟦<StdoutSink<Stdout> as Sink>⟧.faults output.old))
-        (streams (⟦<StdinSource<Stdin> as Source>⟧.left input.new) (⟦<StdinSource<Stdin> as Source>⟧.is_over input.new) (⟦<StdinSource<Stdin> as Source>⟧.faults input.new) (⟦<StdoutSink<Stdout> as Sink>⟧.written output.new) (⟦<StdoutSink<Stdout> as Sink>⟧.faults output.new))
+        (files (⟦<DirShelf<'a, R> as Shelf>⟧.file shelf.old) (⟦<DirShelf<'a, R> as Shelf>⟧.faults shelf.old)
+        (⟦<DirShelf<'a, R> as Shelf>⟧.misses shelf.old))
+        (files (⟦<DirShelf<'a, R> as Shelf>⟧.file shelf.new) (⟦<DirShelf<'a, R> as Shelf>⟧.faults shelf.new)
+        (⟦<DirShelf<'a, R> as Shelf>⟧.misses shelf.new))
+        (streams (⟦<StdinSource<Stdin> as Source>⟧.left input.old) (⟦<StdinSource<Stdin> as Source>⟧.is_over input.old)
+        (⟦<StdinSource<Stdin> as Source>⟧.faults input.old) (⟦<StdoutSink<Stdout> as Sink>⟧.written output.old)
+        (⟦<StdoutSink<Stdout> as Sink>⟧.faults output.old))
+        (streams (⟦<StdinSource<Stdin> as Source>⟧.left input.new) (⟦<StdinSource<Stdin> as Source>⟧.is_over input.new)
+        (⟦<StdinSource<Stdin> as Source>⟧.faults input.new) (⟦<StdoutSink<Stdout> as Sink>⟧.written output.new)
+        (⟦<StdoutSink<Stdout> as Sink>⟧.faults output.new))
         (noting (⟦<StderrSink<Stderr> as Sink>⟧.written notes.old) (⟦<StderrSink<Stderr> as Sink>⟧.faults notes.old))
         (noting (⟦<StderrSink<Stderr> as Sink>⟧.written notes.new) (⟦<StderrSink<Stderr> as Sink>⟧.faults notes.new))
         result }
@@ -92,15 +96,4 @@ fn after_name(mut words: Vec<String>) -> Vec<String>
         let _name = words.remove(0);
     }
     words
-}
-
-// Writes the whole text, unless the sink fails.
-fn put_all<E: Sink>(notes: &mut E, text: &[u8]) -> Result<(), SinkFailed> {
-    let mut rest = text;
-    while !rest.is_empty() {
-        let count = notes.put(rest)?;
-        let (_, left) = rest.split_at(count);
-        rest = left;
-    }
-    Ok(())
 }

@@ -10,7 +10,7 @@ use Rattle.rv_machine.specs.Start.{start}
 use Rattle.rv_machine.specs.Runs.{Stops, FaultCause, fault_of}
 use Rattle.bb_outside.specs.Causes.{Rose}
 use Rattle.bb_outside.specs.Files.{Told, Untold, Missing, Holds, Made, Stays}
-use Rattle.lowering.specs.declared.error.LowerError.TheVariants as lower
+use Rattle.lowering_counts.specs.declared.error.LowerError.TheVariants as lower
 use Rattle.bb_driver.specs.declared.error.CompileError.{CompileError}
 use Rattle.bb_driver.specs.declared.error.CompileError.TheVariants as compile
 use Rattle.bb_driver.specs.Sources.{Checks}

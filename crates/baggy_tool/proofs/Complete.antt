@@ -7,7 +7,7 @@ use Rattle.bb_outside.specs.Causes.{Rose}
 use Rattle.bb_outside.specs.Files.{Told, Holds, Stays}
 use Rattle.c_lexer.specs.Text.{Lexeme, Lexes, too_long, whole, faulty}
 use Rattle.c_lexer.specs.declared.fault.LexError.{LexError}
-use Rattle.lowering.specs.Built.{is_built, IsBuilt}
+use Rattle.lowering_counts.specs.Built.{is_built, IsBuilt}
 use Rattle.rv_image.specs.declared.image.Image.{Image}
 use Rattle.bb_driver.specs.OneAnswer.{HasOneAnswer}
 use Rattle.bb_driver.specs.Sources.{IsAccepted}

@@ -11,7 +11,7 @@ use Rattle.rv_image.specs.declared.image.Image.{Image}
 use Rattle.baggy_tool.specs.declared.reader.ReadError.{ReadError}
 use Rattle.baggy_tool.specs.declared.reader.ReadError.TheVariants as read
 use Rattle.baggy_tool.specs.Files.{IsFile, IsAbsent}
-use Rattle.lowering.specs.declared.error.LowerError.TheVariants as lower
+use Rattle.lowering_counts.specs.declared.error.LowerError.TheVariants as lower
 use Rattle.bb_driver.specs.declared.error.CompileError.{CompileError}
 use Rattle.bb_driver.specs.declared.error.CompileError.TheVariants as compile
 use Rattle.baggy_tool.specs.declared.ending.Refusal.TheVariants as refusal

@@ -34,7 +34,8 @@ pub record Streams : Type 0 where
   pub output_faults : ℕ
 
 abbrev pub streams : (left : Option (List ℕ)) (is_over : Bool) (input_faults : ℕ) (written : Option (List ℕ)) (output_faults : ℕ) → Streams
-streams left is_over input_faults written output_faults = record { shown = record { left = left; is_over = is_over; written = written }; input_faults = input_faults; output_faults = output_faults }
+streams left is_over input_faults written output_faults =
+    record { shown = record { left = left; is_over = is_over; written = written }; input_faults = input_faults; output_faults = output_faults }
 
 -- the shelf
 pub record Files : Type 0 where
@@ -123,7 +124,8 @@ AnswersRead (Run file n) before after old new image ending =
 AnswersRead (Exec file n) before after old new image ending =
     AnswersFile most_image (before.file file) (λ bytes. AnswersExec bytes n old new image ending)
 AnswersRead (Compile file path) before after old new image ending =
-    AnswersFile most_source (before.file file) (λ text. AnswersCompile text (before.file path) (after.file path) before.faults after.faults image ending × (new ≡ old))
+    AnswersFile most_source (before.file file) (λ text. AnswersCompile text (before.file path) (after.file path) before.faults after.faults image ending
+    × (new ≡ old))
 AnswersRead (Check file) before after old new image ending =
     AnswersFile most_source (before.file file) (λ text. AnswersCheck text image ending × (new ≡ old))
 

@@ -9,17 +9,18 @@ use Rattle.rv_image.specs.declared.error.ImageError.TheVariants as image
 use Rattle.rv_machine.specs.declared.stop.Stop.{Stop}
 use Rattle.rv_machine.specs.declared.stop.Stop.TheVariants as stop
 use Rattle.baggy_tool.specs.declared.ending.Ending.{Ending}
-use Rattle.baggy_tool.specs.declared.ending.Ending.TheVariants.{Exited, Reported, Trapped, OutOfSteps, Wrote, Checked, Refused, Usage, NoFile, FileFault, ReadFault, WriteFault, NoteFault, NoMemory}
+use Rattle.baggy_tool.specs.declared.ending.Ending.TheVariants.{Exited, Reported, Trapped, OutOfSteps, Wrote, Checked, Refused, Usage}
+use Rattle.baggy_tool.specs.declared.ending.Ending.TheVariants.{NoFile, FileFault, ReadFault, WriteFault, NoteFault, NoMemory}
 use Rattle.baggy_tool.specs.declared.ending.Refusal.{Refusal}
 use Rattle.baggy_tool.specs.declared.ending.Refusal.TheVariants.{Source, Image, NotBuilt}
 use Rattle.bb_driver.specs.declared.error.CompileError.{CompileError}
 use Rattle.bb_driver.specs.declared.error.CompileError.TheVariants as compile
-use Rattle.c_rules.specs.declared.error.TypeError.{TypeError}
-use Rattle.c_rules.specs.declared.error.TypeError.TheVariants as typing
+use Rattle.typing_operators.specs.declared.error.TypeError.{TypeError}
+use Rattle.typing_operators.specs.declared.error.TypeError.TheVariants as typing
 use Rattle.block_layout.specs.declared.error.LayoutError.{LayoutError}
 use Rattle.block_layout.specs.declared.error.LayoutError.TheVariants as layout
-use Rattle.lowering.specs.declared.error.LowerError.{LowerError}
-use Rattle.lowering.specs.declared.error.LowerError.TheVariants as lower
+use Rattle.lowering_counts.specs.declared.error.LowerError.{LowerError}
+use Rattle.lowering_counts.specs.declared.error.LowerError.TheVariants as lower
 use Rattle.c_lexer.specs.declared.fault.LexError.{LexError}
 use Rattle.c_lexer.specs.declared.fault.LexError.TheVariants as lex
 use Rattle.c_parser.specs.declared.parser.ParseError.{ParseError}

@@ -2,7 +2,7 @@
 use Rattle.std.specs.Prelude.{◌≡◌, ◌⊎◌, ℕ, List, Option, Some, None}
 use Rattle.bb_outside.specs.Causes.{Rose}
 use Rattle.bb_outside.specs.Files.{Told, Holds, Made, Stays}
-use Rattle.lowering.specs.Built.{IsBuilt}
+use Rattle.lowering_counts.specs.Built.{IsBuilt}
 use Rattle.rv_image.specs.declared.image.Image.{Image}
 use Rattle.rv_image.specs.Spelling.{spelling}
 use Rattle.bb_driver.specs.Sources.{IsAccepted}

@@ -6,7 +6,7 @@
 mod decimal;
 pub mod ending;
 pub mod laws;
-mod notes;
+pub mod notes;
 mod reader;
 mod refusals;
 pub mod run;

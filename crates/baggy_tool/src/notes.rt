@@ -130,7 +130,7 @@ pub(crate) fn put_both<E: Sink>(
 }
 
 /// Writes the whole text.
-pub(crate) fn put<E: Sink>(notes: &mut E, text: &[u8]) -> Result<(), SinkFailed>
+pub fn put<E: Sink>(notes: &mut E, text: &[u8]) -> Result<(), SinkFailed>
     ensures noted { Noted result text.now (E.written notes.old) (E.written notes.new) }
     ensures cause { HasCause (E.faults notes.old) (E.faults notes.new) result }
 {

@@ -11,10 +11,10 @@ use bb_outside::{Sink, SinkFailed};
 use block_layout::error::LayoutError;
 use c_lexer::LexError;
 use c_parser::ParseError;
-use c_rules::error::TypeError;
 use itoa::Buffer;
-use lowering::error::LowerError;
+use lowering_counts::error::LowerError;
 use rv_image::error::ImageError;
+use typing_operators::error::TypeError;
 
 /// Writes the line of the refusal.
 pub(crate) fn note_refusal<E: Sink>(notes: &mut E, error: &Refusal) -> Result<(), SinkFailed>

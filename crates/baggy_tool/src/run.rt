@@ -7,7 +7,8 @@ ghost use Rattle.baggy_tool.specs.Endings.{status_of};
 ghost use Rattle.baggy_tool.specs.Words.{Run, Exec, Compile, Check, request, request_of};
 ghost use Rattle.baggy_tool.specs.Building.{refused, unread, RunsImage, WritesImage};
 ghost use Rattle.baggy_tool.specs.Files.{most_source, most_image};
-ghost use Rattle.baggy_tool.specs.Calls.{Meets, AnswersWords, Answers, AnswersRun, AnswersExec, AnswersCompile, AnswersCheck, IsKept, Notes, Streams, files, streams, noting};
+ghost use Rattle.baggy_tool.specs.Calls.{Meets, AnswersWords, Answers, AnswersRun, AnswersExec, AnswersCompile};
+ghost use Rattle.baggy_tool.specs.Calls.{AnswersCheck, IsKept, Notes, Streams, files, streams, noting};
 
 use crate::ending::{Ended, Ending, Refusal, ending_of, status_of};
 use crate::notes::note;
@@ -17,7 +18,7 @@ use bb_driver::compile::{Compiled, compile};
 use bb_driver::error::CompileError;
 use bb_driver::source::check;
 use bb_outside::{Shelf, ShelfFailed, Sink, Source};
-use lowering::error::LowerError;
+use lowering_counts::error::LowerError;
 use rv_image::image::Image;
 use rv_image::{ImageError, read, write};
 use rv_machine::machine::Machine;
@@ -69,7 +70,8 @@ fn answer<F: Shelf, I: Source, O: Sink>(
         (streams (I.left input.old) (I.is_over input.old) (I.faults input.old) (O.written output.old) (O.faults output.old))
         (streams (I.left input.new) (I.is_over input.new) (I.faults input.new) (O.written output.new) (O.faults output.new))
         result.image result.ending }
-    ensures files { (other : List ℕ) → IsKept (request_of (map string_bytes words.now)) result.image other → Stays (F.file shelf.old other) (F.file shelf.new other) }
+    ensures files { (other : List ℕ) → IsKept (request_of (map string_bytes words.now)) result.image other
+        → Stays (F.file shelf.old other) (F.file shelf.new other) }
 {
     match command_in(alloc, words) {
         Err(_) => without_image(Ending::NoMemory),
@@ -92,7 +94,8 @@ fn answer_command<F: Shelf, I: Source, O: Sink>(
         (streams (I.left input.old) (I.is_over input.old) (I.faults input.old) (O.written output.old) (O.faults output.old))
         (streams (I.left input.new) (I.is_over input.new) (I.faults input.new) (O.written output.new) (O.faults output.new))
         result.image result.ending }
-    ensures files { (other : List ℕ) → IsKept (Some (request command.entry)) result.image other → Stays (F.file shelf.old other) (F.file shelf.new other) }
+    ensures files { (other : List ℕ) → IsKept (Some (request command.entry)) result.image other
+        → Stays (F.file shelf.old other) (F.file shelf.new other) }
 {
     match command {
         Command::Run { file, steps } => answer_run(alloc, file, steps, shelf, input, output),
@@ -154,7 +157,8 @@ fn answer_compile<F: Shelf>(alloc: Global, file: &str, path: &str, shelf: &mut F
         (files (F.file shelf.old) (F.faults shelf.old) (F.misses shelf.old))
         (files (F.file shelf.new) (F.faults shelf.new) (F.misses shelf.new))
         old old result.image result.ending }
-    ensures files { (other : List ℕ) → IsKept (Some (Compile file.now path.now)) result.image other → Stays (F.file shelf.old other) (F.file shelf.new other) }
+    ensures files { (other : List ℕ) → IsKept (Some (Compile file.now path.now)) result.image other
+        → Stays (F.file shelf.old other) (F.file shelf.new other) }
 {
     match read_file(alloc, shelf, file, MAX_SOURCE) {
         Err(e) => without_image(unread(e)),
@@ -222,7 +226,8 @@ fn exec_bytes<I: Source, O: Sink>(
 // Makes the text's image and writes it.
 fn write_text<F: Shelf>(alloc: Global, text: &[u8], path: &str, shelf: &mut F) -> Outcome
     requires { length text.now ≤ most_source + 1 }
-    ensures written { AnswersCompile text.now (F.file shelf.old path.now) (F.file shelf.new path.now) (F.faults shelf.old) (F.faults shelf.new) result.image result.ending }
+    ensures written { AnswersCompile text.now (F.file shelf.old path.now) (F.file shelf.new path.now) (F.faults shelf.old)
+        (F.faults shelf.new) result.image result.ending }
     ensures others { (other : List ℕ) → other ≢ path.now → Stays (F.file shelf.old other) (F.file shelf.new other) }
     ensures unwritten { result.image ≡ None → (other : List ℕ) → Stays (F.file shelf.old other) (F.file shelf.new other) }
 {
@@ -269,7 +274,8 @@ fn run_image<I: Source, O: Sink>(
 // Writes the image.
 fn write_image<F: Shelf>(alloc: Global, image: Image, path: &str, shelf: &mut F) -> Outcome
     requires { IsImage image }
-    ensures written { WritesImage image (F.file shelf.old path.now) (F.file shelf.new path.now) (F.faults shelf.old) (F.faults shelf.new) result.image result.ending }
+    ensures written { WritesImage image (F.file shelf.old path.now) (F.file shelf.new path.now) (F.faults shelf.old)
+        (F.faults shelf.new) result.image result.ending }
     ensures others { (other : List ℕ) → other ≢ path.now → Stays (F.file shelf.old other) (F.file shelf.new other) }
     ensures unwritten { result.image ≡ None → (other : List ℕ) → Stays (F.file shelf.old other) (F.file shelf.new other) }
 {

@@ -5,7 +5,8 @@ ghost use Rattle.std.specs.List.{list_all};
 ghost use Rattle.std.specs.Option.{option_map};
 ghost use Rattle.std.specs.Char.{is_ascii_digit};
 ghost use Rattle.clap.specs.Words.{rule_of, app_of, rows_of, found_of};
-ghost use Rattle.baggy_tool.specs.Words.{request, request_of, steps_of, steps_in, default_steps, positional, option, baggy_command, with_mode, with_words, asked_by, text_in, is_out_of_memory};
+ghost use Rattle.baggy_tool.specs.Words.{request, request_of, steps_of, steps_in, default_steps, positional, option};
+ghost use Rattle.baggy_tool.specs.Words.{baggy_command, with_mode, with_words, asked_by, text_in, is_out_of_memory};
 
 use crate::decimal::number_within;
 use clap::error::ErrorKind;

@@ -10,7 +10,7 @@ use Rattle.injection.specs.Trail.{SafeSites, Says}
 use Rattle.flat_code.specs.Told.{Tell, Stamped, tells, AllBy, Begins, Came}
 use Rattle.flat_code.specs.Told as tell
 use Rattle.flat_code.specs.World as flat
-use Rattle.flat_code.specs.Laws.{OutputBegins, TrailBegins, TellsBegin, AllByLater}
+use Rattle.flat_code_laws.specs.Laws.{OutputBegins, TrailBegins, TellsBegin, AllByLater}
 use Rattle.rv_machine.specs.Environment as machine
 use Rattle.flat_landing.specs.Shared.{shared}
 use Rattle.flat_landing.specs.Lands as landing

@@ -7,19 +7,19 @@ use Rattle.std.specs.Prelude.{replicate, Result, Err}
 use Rattle.std.proofs.lemmas.List.{length-replicate}
 use Rattle.size_table.specs.declared.memory_map.TheConstants.{TEXT_START}
 use Rattle.mid_code.specs.Code.{Program}
-use Rattle.bounds_instr.specs.Code.{global_blocks}
+use Rattle.bounds_instr_code.specs.Code.{global_blocks}
 use Rattle.bounds_instr.specs.Instruments.{Instruments}
-use Rattle.bounds_instr.specs.Keeps.{Keeps}
+use Rattle.bounds_instr_keeps.specs.Keeps.{Keeps}
 use Rattle.flat_code.specs.Code.{FCode}
-use Rattle.flat_verify.specs.Discipline.{IsDisciplined}
+use Rattle.flat_discipline.specs.Discipline.{IsDisciplined}
 use Rattle.rv_image.specs.declared.image.Image.{Image}
 use Rattle.rv_image.specs.Rules.{IsImage, AreFrames, count_of}
 use Rattle.rv_asm.specs.declared.parts.Part.{Part}
 use Rattle.rv_asm.specs.Parts.{AreParts}
 use Rattle.rv_asm.specs.Runs.{IsResolved}
 use Rattle.rv_asm.specs.Text.{text_of}
-use Rattle.rv_select.specs.Selection.{selected}
-use Rattle.rv_select.specs.Shape.{HasShape}
+use Rattle.rv_selected.specs.Selection.{selected}
+use Rattle.rv_selected.specs.Shape.{HasShape}
 use Rattle.bb_driver.specs.Compiles.{no_sites, IsMade}
 
 -- frames without objects keep the rules

@@ -2,7 +2,7 @@
 use Rattle.std.proofs.Common.{◌≡◌, ℕ, ◌≤◌, List, refl, sym, subst, arith}
 use Rattle.std.specs.Prelude.{All}
 use Rattle.bb_words.specs.Answers.{Answer}
-use Rattle.c_typed.specs.TypedTree.{CProgram}
+use Rattle.typed_tree.specs.TypedTree.{CProgram}
 use Rattle.size_table.specs.Blocks.{Block}
 use Rattle.source_meaning.specs.declared.values.Ending.{Ending}
 use Rattle.source_meaning.specs.declared.values.Ending.TheVariants as ending
@@ -12,25 +12,25 @@ use Rattle.injection.specs.Trail.{SafeSites, Says}
 use Rattle.mid_code.specs.Code.{Program}
 use Rattle.mid_code.specs.Meaning.{Came, Point}
 use Rattle.mid_code.specs.Runs as mid
-use Rattle.lowering.specs.Keeps.{Agrees}
-use Rattle.bounds_instr.specs.Code.{global_blocks, frames_of}
-use Rattle.bounds_instr.specs.Keeps.{EndsAlike, OutcomeAlike}
+use Rattle.lowering_keeps.specs.Keeps.{Agrees}
+use Rattle.bounds_instr_code.specs.Code.{global_blocks, frames_of}
+use Rattle.bounds_instr_keeps.specs.Keeps.{EndsAlike, OutcomeAlike}
 use Rattle.flat_code.specs.Code.{FCode}
 use Rattle.flat_code.specs.Told as Told
 use Rattle.flat_code.specs.Told.{tells, AllBy}
 use Rattle.flat_code.specs.World as flat
 use Rattle.flat_code.specs.Safety.{AllSafe}
-use Rattle.flat_code.specs.Laws.{SafeAppends, TrapsAreOfAccesses, AllByLater, point_of}
+use Rattle.flat_code_laws.specs.Laws.{SafeAppends, TrapsAreOfAccesses, AllByLater, point_of}
 use Rattle.flat_code.specs.Run.{flat_run}
-use Rattle.flat_verify.specs.Safe.{DisciplinedIsSafe}
+use Rattle.flat_discipline.specs.Safe.{DisciplinedIsSafe}
 use Rattle.flat_landing.specs.Lands.{outcome_of}
 use Rattle.rv_image.specs.declared.image.Image.{Image}
 use Rattle.rv_image.specs.Rules.{slot_of}
 use Rattle.rv_machine.specs.Formed.{IsByte}
 use Rattle.rv_machine.specs.Live as machine
-use Rattle.rv_machine.specs.Laws.{TableIsKept}
+use Rattle.rv_machine_laws.specs.Laws.{TableIsKept}
 use Rattle.rv_machine.specs.Machine.{machine_after}
-use Rattle.rv_machine.specs.Safety.{SafeRun}
+use Rattle.rv_machine_laws.specs.Safety.{SafeRun}
 use Rattle.bb_driver.specs.Same.{SafeSitesHold, Same}
 use Rattle.bb_driver.specs.Right.{Right}
 use Rattle.bb_driver.specs.Laws.{Layers}

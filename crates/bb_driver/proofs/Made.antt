@@ -4,8 +4,8 @@ use Rattle.std.specs.Prelude.{All, map, replicate, slice_get, slice_index}
 use Rattle.std.proofs.lemmas.Bool.{true≢false}
 use Rattle.std.proofs.lemmas.List.{length-map, replicate_more}
 use Rattle.std.proofs.lemmas.List.Elements.{All-from_get_or, All-nil}
-use Rattle.c_typed.specs.TypedTree.{CProgram}
-use Rattle.c_typed.specs.Typed.{Typed}
+use Rattle.typed_tree.specs.TypedTree.{CProgram}
+use Rattle.typed_tree.specs.Typed.{Typed}
 use Rattle.size_table.specs.Made.{blocks_from}
 use Rattle.size_table.specs.declared.memory_map.TheConstants.{GLOBALS_START}
 use Rattle.source_meaning.specs.Objects.{Object}
@@ -17,22 +17,22 @@ use Rattle.mid_code.specs.Meaning.{Came, Strayed}
 use Rattle.mid_code.specs.Safe.{Safe, IsSiteOf}
 use Rattle.mid_code.specs.Formed.{Formed}
 use Rattle.mid_code.specs.Runs as mid
-use Rattle.lowering.specs.Built.{IsBuilt}
-use Rattle.lowering.specs.Keeps.{Keeps}
-use Rattle.lowering.specs.Lower.{lowered}
-use Rattle.bounds_instr.specs.Code.{frame_of, function_code, frames_of, global_blocks, instrumented}
+use Rattle.lowering_counts.specs.Built.{IsBuilt}
+use Rattle.lowering_keeps.specs.Keeps.{Keeps}
+use Rattle.lowering_code.specs.Lower.{lowered}
+use Rattle.bounds_instr_code.specs.Code.{frame_of, function_code, frames_of, global_blocks, instrumented}
 use Rattle.flat_code.specs.Accounts.{frame_size}
 use Rattle.flat_code.specs.Code.{FFunction, FCode}
 use Rattle.flat_code.specs.Run.{flat_run}
-use Rattle.flat_verify.specs.Safe.{AreGlobals, IsFrame}
+use Rattle.flat_discipline.specs.Safe.{AreGlobals, IsFrame}
 use Rattle.flat_landing.specs.Lands.{outcome_of, RunsAs}
 use Rattle.rv_image.specs.declared.image.Image.{Image}
 use Rattle.rv_machine.specs.Formed.{IsByte}
 use Rattle.rv_machine.specs.Live as machine
 use Rattle.rv_machine.specs.Machine.{machine_after}
-use Rattle.select_runs.specs.ImageOf as selection
-use Rattle.select_runs.specs.Laws.{SelectionRuns}
-use Rattle.select_runs.specs.InReach.{CalmIsInReach}
+use Rattle.select_scope.specs.ImageOf as selection
+use Rattle.select_scope.specs.Laws.{SelectionRuns}
+use Rattle.select_scope.specs.InReach.{CalmIsInReach}
 use Rattle.number_code.specs.Laws.{CodeFits, CodeIsCalm, MainFits, NoFrames, IsFrameless}
 use Rattle.bb_driver.specs.Same.{SafeSitesHold}
 use Rattle.bb_driver.specs.Right.{Right}

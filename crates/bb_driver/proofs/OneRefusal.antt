@@ -6,28 +6,28 @@ use Rattle.std.proofs.lemmas.Option.{none-some, same_Some}
 use Rattle.c_lexer.specs.Text.{Lexeme, Lexes, HasOneReading, placed}
 use Rattle.c_lexer.specs.declared.fault.LexError.{LexError}
 use Rattle.c_lexer.specs.declared.fault.LexError.TheVariants as lex
-use Rattle.c_tree.specs.Syntax.{UnitTree}
-use Rattle.c_tree.specs.GrammarRefusals.{Refusal, IsRefused, HasOneRefusal, IsNotRefused, line_of}
-use Rattle.c_parser.specs.Laws.{HasOneUnit}
+use Rattle.syntax_tree.specs.Syntax.{UnitTree}
+use Rattle.syntax_tree.specs.GrammarRefusals.{Refusal, IsRefused, HasOneRefusal, IsNotRefused, line_of}
+use Rattle.c_parser_rules.specs.Laws.{HasOneUnit}
 use Rattle.c_parser.specs.declared.parser.ParseError.{ParseError}
 use Rattle.c_parser.specs.declared.parser.ParseError.TheVariants as parse
-use Rattle.c_rules.specs.declared.error.TypeError.{TypeError}
-use Rattle.c_rules.specs.declared.error.TypeError.TheVariants as typing
-use Rattle.c_typed.specs.TypedTree.{CProgram, CFunction}
-use Rattle.c_typed.specs.Counts.{values_of}
-use Rattle.c_typing.specs.Units.{typed_unit}
+use Rattle.typing_operators.specs.declared.error.TypeError.{TypeError}
+use Rattle.typing_operators.specs.declared.error.TypeError.TheVariants as typing
+use Rattle.typed_tree.specs.TypedTree.{CProgram, CFunction}
+use Rattle.typed_tree.specs.Counts.{values_of}
+use Rattle.typing_unit_keeps.specs.Units.{typed_unit}
+use Rattle.typing_accepted.specs.AcceptanceLaws.{AcceptedIsTyped, FilesFailAtFirst}
 use Rattle.block_layout.specs.Answers as room
 use Rattle.block_layout.specs.Answers.{ObjectsFit, DoNotFit}
 use Rattle.block_layout.specs.declared.error.LayoutError.{LayoutError}
 use Rattle.block_layout.specs.declared.error.LayoutError.TheVariants as layout
-use Rattle.lowering.specs.declared.error.LowerError.{LowerError}
-use Rattle.lowering.specs.declared.error.LowerError.TheVariants as lower
-use Rattle.lowering.specs.Lowers.{counted, IsFirstFull}
+use Rattle.lowering_counts.specs.declared.error.LowerError.{LowerError}
+use Rattle.lowering_counts.specs.declared.error.LowerError.TheVariants as lower
+use Rattle.lowering_counts.specs.Limits.{counted, IsFirstFull, PassesLimit}
 use Rattle.bb_driver.specs.declared.error.CompileError.{CompileError}
 use Rattle.bb_driver.specs.declared.error.CompileError.TheVariants as compile
-use Rattle.bb_driver.specs.Sources.{Reads, Means, FailsAt, FailsToType, PassesLimit, Refuses}
+use Rattle.bb_driver.specs.Sources.{Reads, Means, FailsAt, FailsToType, Refuses}
 use Rattle.bb_driver.proofs.Unique as unique
-use Rattle.bb_driver.proofs.Unique.{no_error}
 
 error_is : {A E : Type 0} (x y : E) → (let r : Result A E = Err x in r ≡ Err y) → x ≡ y
 error_is {A} {E} x y e = ap or_first e
@@ -116,37 +116,38 @@ layer_of text (compile.Layout f) h = objects h.0 f refl h.1 h.2
 layer_of text (compile.Lower f) h = limits h.0 f refl h.1 h.2 h.3
 layer_of text compile.Memory h = absurd h
 
-module _ (reading : HasOneReading) (unit : HasOneUnit) (fine : IsNotRefused) (one : HasOneRefusal) where
+module _ (reading : HasOneReading) (unit : HasOneUnit) (fine : IsNotRefused) (one : HasOneRefusal) (typed : AcceptedIsTyped) (failing : FilesFailAtFirst) where
   not_lexed : (text : List ℕ) (tokens : List Lexeme) (f : LexError) → Lexes text (Ok tokens) → Lexes text (Err f) → ⊥
-  not_lexed = unique.not_lexed reading unit fine
+  not_lexed = unique.not_lexed reading unit fine typed failing
 
   not_failed : (text : List ℕ) (tree : UnitTree) (why : Refusal) (token line : ℕ) → Reads text tree → FailsAt text why token line → ⊥
-  not_failed = unique.not_failed reading unit fine
+  not_failed = unique.not_failed reading unit fine typed failing
 
   not_typed : (text : List ℕ) (p : CProgram) (f : TypeError) → Means text p → FailsToType text f → ⊥
-  not_typed text p f x y = no_error p f (sym x.2 ∙ ap typed_unit (unique.trees_are reading unit fine text x.0 y.0 x.1 y.1) ∙ y.2)
+  not_typed = unique.not_typed reading unit fine typed failing
 
   one_lex_error : (text : List ℕ) (e f : LexError) → Lexes text (Err e) → Lexes text (Err f) → e ≡ f
   one_lex_error text e f x y = error_is e f ((reading text).2 (Err e) x ∙ sym ((reading text).2 (Err f) y))
 
   one_failure : (text : List ℕ) (r s : Refusal) (n m j k : ℕ) → FailsAt text r n j → FailsAt text s m k → parse_error r n j ≡ parse_error s m k
   one_failure text r s n m j k x y =
-      let same = unique.tokens_are reading unit fine text x.0 y.0 x.1 y.1 in
+      let same = unique.tokens_are reading unit fine typed failing text x.0 y.0 x.1 y.1 in
       let at = one (placed y.0) r s n m (subst (λ (ts : List Lexeme). IsRefused (placed ts) r n) same x.2) y.2 in
       let line = x.3 ∙ ap (λ (ts : List Lexeme). line_of (placed ts) n) same ∙ ap (line_of (placed y.0)) at.1 ∙ sym y.3 in
       ap (λ (t : Refusal). parse_error t n j) at.0 ∙ ap (λ i. parse_error s i j) at.1 ∙ ap (parse_error s m) line
 
   one_type_error : (text : List ℕ) (e f : TypeError) → FailsToType text e → FailsToType text f → e ≡ f
-  one_type_error text e f x y = error_is e f (sym x.2 ∙ ap typed_unit (unique.trees_are reading unit fine text x.0 y.0 x.1 y.1) ∙ y.2)
+  one_type_error text e f x y =
+      error_is e f (sym ((failing x.0 e).backward x.2) ∙ ap typed_unit (unique.trees_are reading unit fine typed failing text x.0 y.0 x.1 y.1) ∙ (failing y.0 f).backward y.2)
 
   one_passed : (text : List ℕ) (p q : CProgram) (e f : LowerError) → Means text p → PassesLimit p e → Means text q → PassesLimit q f → e ≡ f
-  one_passed text p q e f x past y past' = one_limit q e f (subst (λ (r : CProgram). PassesLimit r e) (unique.one_program reading unit fine text p q x y) past) past'
+  one_passed text p q e f x past y past' = one_limit q e f (subst (λ (r : CProgram). PassesLimit r e) (unique.one_program reading unit fine typed failing text p q x y) past) past'
 
   one_not_fitting : (text : List ℕ) (p q : CProgram) (e f : LayoutError) → Means text p → DoNotFit p e → Means text q → DoNotFit q f → e ≡ f
-  one_not_fitting text p q e f x past y past' = one_room q e f (subst (λ (r : CProgram). DoNotFit r e) (unique.one_program reading unit fine text p q x y) past) past'
+  one_not_fitting text p q e f x past y past' = one_room q e f (subst (λ (r : CProgram). DoNotFit r e) (unique.one_program reading unit fine typed failing text p q x y) past) past'
 
   not_both_fit : (text : List ℕ) (p q : CProgram) (e : LayoutError) → Means text p → DoNotFit p e → Means text q → ObjectsFit q → ⊥
-  not_both_fit text p q e x past y fit = unique.no_room q e fit (subst (λ (r : CProgram). DoNotFit r e) (unique.one_program reading unit fine text p q x y) past)
+  not_both_fit text p q e x past y fit = unique.no_room q e fit (subst (λ (r : CProgram). DoNotFit r e) (unique.one_program reading unit fine typed failing text p q x y) past)
 
   one_layer : (text : List ℕ) (e f : CompileError) → Layer text e → Layer text f → e ≡ f
   one_layer text e f (tokens a is x) (tokens b is' y) = is ∙ ap (λ (z : LexError). compile.Lex z) (one_lex_error text a b x y) ∙ sym is'

@@ -5,23 +5,25 @@ use Rattle.c_lexer.specs.Text.{Lexeme, Lexes, placed}
 use Rattle.c_lexer.specs.Views.{IsRefusal}
 use Rattle.c_lexer.specs.declared.fault.LexError.{LexError}
 use Rattle.c_lexer.specs.declared.fault.LexError.TheVariants as lex
-use Rattle.c_tree.specs.Syntax.{UnitTree}
+use Rattle.syntax_tree.specs.Syntax.{UnitTree}
 use Rattle.c_parser.specs.Parse.{IsAnswer}
 use Rattle.c_parser.specs.declared.parser.ParseError.{ParseError}
 use Rattle.c_parser.specs.declared.parser.ParseError.TheVariants as parse
-use Rattle.c_rules.specs.Rule.{Fails}
-use Rattle.c_rules.specs.declared.error.TypeError.{TypeError}
-use Rattle.c_rules.specs.declared.error.TypeError.TheVariants as typing
-use Rattle.c_typed.specs.TypedTree.{CProgram}
-use Rattle.c_typing.specs.Units.{typed_unit}
+use Rattle.typing_operators.specs.Rule.{Fails}
+use Rattle.typing_operators.specs.declared.error.TypeError.{TypeError}
+use Rattle.typing_operators.specs.declared.error.TypeError.TheVariants as typing
+use Rattle.typed_tree.specs.TypedTree.{CProgram}
+use Rattle.typing_unit_keeps.specs.Units.{typed_unit}
+use Rattle.typing_accepted.specs.AcceptanceLaws.{FilesFailAtFirst}
 use Rattle.block_layout.specs.Answers.{ObjectsFit}
 use Rattle.mid_code.specs.declared.code.Mid.{Mid}
-use Rattle.lowering.specs.declared.error.LowerError.{LowerError}
-use Rattle.lowering.specs.declared.error.LowerError.TheVariants as lower
+use Rattle.lowering_counts.specs.declared.error.LowerError.{LowerError}
+use Rattle.lowering_counts.specs.declared.error.LowerError.TheVariants as lower
+use Rattle.lowering_counts.specs.Limits.{IsWithin}
 use Rattle.lowering.specs.Lowers.{IsLowered}
 use Rattle.bb_driver.specs.declared.error.CompileError.{CompileError}
 use Rattle.bb_driver.specs.declared.error.CompileError.TheVariants as compile
-use Rattle.bb_driver.specs.Sources.{Means, Accepts, ReadsProgram, LaysOut, Checks, of_lower, limit_of, Reads, of_lex, of_parse, of_typing}
+use Rattle.bb_driver.specs.Sources.{Means, Accepts, ReadsProgram, LaysOut, Checks, of_lower, Reads, of_lex, of_parse, of_typing}
 use Rattle.bb_driver.specs.Compiles.{Compiles}
 
 -- what the lexer refuses is refused, and so on
@@ -39,15 +41,15 @@ parse_refuses text tokens parse.Memory l a = tt
 parse_refuses text tokens (parse.Syntax token line) l a = (tokens, l, a.0, a.1)
 parse_refuses text tokens (parse.TooDeep token line) l a = (tokens, l, a.0, a.1)
 
-pub typing_refuses : (text : List ℕ) (tree : UnitTree) (e : TypeError) → Reads text tree → Fails e (typed_unit tree) → ReadsProgram text (Err (of_typing e))
-typing_refuses text tree typing.Memory r h = tt
-typing_refuses text tree (typing.Unknown line x) r h = (tree, r, h)
-typing_refuses text tree (typing.Twice line x) r h = (tree, r, h)
-typing_refuses text tree (typing.BadType line n) r h = (tree, r, h)
-typing_refuses text tree typing.NoMain r h = (tree, r, h)
-typing_refuses text tree (typing.TooLarge line n) r h = (tree, r, h)
-typing_refuses text tree (typing.TooManyParams line) r h = (tree, r, h)
-typing_refuses text tree (typing.TooManyFunctions line) r h = (tree, r, h)
+pub typing_refuses : FilesFailAtFirst → (text : List ℕ) (tree : UnitTree) (e : TypeError) → Reads text tree → Fails e (typed_unit tree) → ReadsProgram text (Err (of_typing e))
+typing_refuses failing text tree typing.Memory r h = tt
+typing_refuses failing text tree (typing.Unknown line x) r h = (tree, r, (failing tree (typing.Unknown line x)).forward h)
+typing_refuses failing text tree (typing.Twice line x) r h = (tree, r, (failing tree (typing.Twice line x)).forward h)
+typing_refuses failing text tree (typing.BadType line n) r h = (tree, r, (failing tree (typing.BadType line n)).forward h)
+typing_refuses failing text tree typing.NoMain r h = (tree, r, (failing tree typing.NoMain).forward h)
+typing_refuses failing text tree (typing.TooLarge line n) r h = (tree, r, (failing tree (typing.TooLarge line n)).forward h)
+typing_refuses failing text tree (typing.TooManyParams line) r h = (tree, r, (failing tree (typing.TooManyParams line)).forward h)
+typing_refuses failing text tree (typing.TooManyFunctions line) r h = (tree, r, (failing tree (typing.TooManyFunctions line)).forward h)
 
 -- what has no room is refused
 pub room_checks : (text : List ℕ) (p : CProgram) (e : CompileError) → Means text p → LaysOut p (Err e) → Checks text (Err e)
@@ -73,13 +75,17 @@ coded text p mid means fit h = (means, record { objects = fit; nodes = h.0; valu
 pub not_built : (text : List ℕ) (p : CProgram) → Means text p → ObjectsFit p → IsLowered p (Err lower.NotBuilt) → Accepts text p
 not_built text p means fit h = (means, record { objects = fit; nodes = h.0; values = h.1 })
 
--- what lowering refuses is refused
-pub limit_checks : (text : List ℕ) (p : CProgram) (e : LowerError) → Means text p → ObjectsFit p → IsLowered p (Err e) → Checks text (limit_of e)
+-- so is one that passes no limit, and one that passes a limit is refused
+pub within : (text : List ℕ) (p : CProgram) → Means text p → ObjectsFit p → IsWithin {A = Unit {0}} p (Ok tt) → Accepts text p
+within text p means fit h = (means, record { objects = fit; nodes = h.0; values = h.1 })
+
+pub limit_checks : (text : List ℕ) (p : CProgram) (e : LowerError) → Means text p → ObjectsFit p → IsWithin {A = Unit {0}} p (Err e) → Checks text (Err (of_lower e))
 limit_checks text p (lower.TooManyNodes count) means fit h = (p, means, fit, h)
 limit_checks text p (lower.TooManyValues name count) means fit h = (p, means, fit, h)
-limit_checks text p lower.NotBuilt means fit h = (p, not_built text p means fit h)
+limit_checks text p lower.NotBuilt means fit h = absurd h
 limit_checks text p lower.Memory means fit h = tt
 
+-- what lowering refuses is refused
 pub lower_compiles : (text : List ℕ) (p : CProgram) (e : LowerError) → Means text p → ObjectsFit p → IsLowered p (Err e) → Compiles text (Err (of_lower e))
 lower_compiles text p (lower.TooManyNodes count) means fit h = (p, means, fit, h)
 lower_compiles text p (lower.TooManyValues name count) means fit h = (p, means, fit, h)

@@ -7,15 +7,15 @@ use Rattle.bb_words.specs.declared.kinds.TrapKind.TheVariants as trap
 use Rattle.flat_code.specs.Told.{tells}
 use Rattle.flat_code.specs.World as flat
 use Rattle.flat_code.specs.Safety.{AllSafe}
-use Rattle.flat_code.specs.Laws.{SafeAppends, IsOfAccess, TrapsOfAccess}
+use Rattle.flat_code_laws.specs.Laws.{SafeAppends, IsOfAccess, TrapsOfAccess}
 use Rattle.rv_image.specs.declared.image.Image.{Image}
 use Rattle.rv_image.specs.Rules.{IsImage, slot_of}
 use Rattle.rv_machine.specs.declared.stop.Halt.{Halt}
 use Rattle.rv_machine.specs.Formed.{IsByte}
 use Rattle.rv_machine.specs.Live.{global_blocks}
-use Rattle.rv_machine.specs.Laws.{TableIsKept}
+use Rattle.rv_machine_laws.specs.Laws.{TableIsKept}
 use Rattle.rv_machine.specs.Machine.{machine_after}
-use Rattle.rv_machine.specs.Safety.{IsSafeEnding, IsSafe}
+use Rattle.rv_machine_laws.specs.Safety.{IsSafeEnding, IsSafe}
 use Rattle.flat_landing.specs.Shared.{shared}
 use Rattle.flat_landing.specs.Lands.{Outcome, outcome_of, halt_of, RunsAs}
 use Rattle.bb_driver.proofs.Shared.{safe_shared}

@@ -6,27 +6,29 @@ use Rattle.std.proofs.lemmas.Option.{get_or_from_slice_get, slice_get_within}
 use Rattle.c_lexer.specs.Text.{Lexeme, Lexes, HasOneReading, placed}
 use Rattle.c_lexer.specs.declared.fault.LexError.{LexError}
 use Rattle.c_lexer.specs.declared.fault.LexError.TheVariants as lex
-use Rattle.c_rules.specs.declared.error.TypeError.{TypeError}
-use Rattle.c_rules.specs.declared.error.TypeError.TheVariants as typing
-use Rattle.c_tree.specs.Syntax.{UnitTree}
-use Rattle.c_tree.specs.Grammar.{Derives}
-use Rattle.c_tree.specs.GrammarLimits.{within_limits}
-use Rattle.c_tree.specs.GrammarRefusals.{Refusal, IsNotRefused}
-use Rattle.c_parser.specs.Laws.{HasOneUnit}
+use Rattle.typing_operators.specs.declared.error.TypeError.{TypeError}
+use Rattle.typing_operators.specs.declared.error.TypeError.TheVariants as typing
+use Rattle.syntax_tree.specs.Syntax.{UnitTree}
+use Rattle.syntax_tree.specs.Grammar.{Derives}
+use Rattle.syntax_tree.specs.GrammarLimits.{within_limits}
+use Rattle.syntax_tree.specs.GrammarRefusals.{Refusal, IsNotRefused}
+use Rattle.c_parser_rules.specs.Laws.{HasOneUnit}
 use Rattle.c_parser.specs.declared.parser.ParseError.TheVariants as parse
-use Rattle.c_typed.specs.TypedTree.{CProgram, CFunction}
-use Rattle.c_typed.specs.Counts.{values_of}
-use Rattle.c_typing.specs.Units.{typed_unit}
+use Rattle.typed_tree.specs.TypedTree.{CProgram, CFunction}
+use Rattle.typed_tree.specs.Counts.{values_of}
+use Rattle.typing_unit_keeps.specs.Units.{typed_unit}
+use Rattle.typing_accepted.specs.AcceptanceLaws.{AcceptedIsTyped, FilesFailAtFirst}
 use Rattle.block_layout.specs.Answers.{ObjectsFit, DoNotFit, frame_bytes, most_frame_bytes}
 use Rattle.block_layout.specs.declared.error.LayoutError.{LayoutError}
 use Rattle.block_layout.specs.declared.error.LayoutError.TheVariants as layout
-use Rattle.lowering.specs.declared.error.LowerError.{LowerError}
-use Rattle.lowering.specs.declared.error.LowerError.TheVariants as lower
-use Rattle.lowering.specs.Built.{is_built, IsBuilt}
+use Rattle.lowering_counts.specs.Limits.{PassesLimit}
+use Rattle.lowering_counts.specs.declared.error.LowerError.{LowerError}
+use Rattle.lowering_counts.specs.declared.error.LowerError.TheVariants as lower
+use Rattle.lowering_counts.specs.Built.{is_built, IsBuilt}
 use Rattle.bb_driver.specs.declared.compile.Compiled.{Compiled}
 use Rattle.bb_driver.specs.declared.error.CompileError.{CompileError}
 use Rattle.bb_driver.specs.declared.error.CompileError.TheVariants as compile
-use Rattle.bb_driver.specs.Sources.{Reads, Means, Accepts, FailsAt, FailsToType, PassesLimit, Refuses}
+use Rattle.bb_driver.specs.Sources.{Reads, Means, Accepts, FailsAt, FailsToType, Refuses}
 use Rattle.bb_driver.specs.Compiles.{Compiles, IsAnswered}
 use Rattle.bb_driver.specs.OneAnswer.{HasOneAnswer}
 
@@ -57,7 +59,7 @@ no_room p (layout.FrameFull name total) fit h =
     absurd (omega (arith, most, more))
 no_room p layout.Memory fit h = h
 
-module _ (reading : HasOneReading) (unit : HasOneUnit) (fine : IsNotRefused) where
+module _ (reading : HasOneReading) (unit : HasOneUnit) (fine : IsNotRefused) (typed : AcceptedIsTyped) (failing : FilesFailAtFirst) where
   pub tokens_are : (text : List ℕ) (a b : List Lexeme) → Lexes text (Ok a) → Lexes text (Ok b) → a ≡ b
   tokens_are text a b x y = ok_is a b ((reading text).2 (Ok a) x ∙ sym ((reading text).2 (Ok b) y))
 
@@ -68,7 +70,7 @@ module _ (reading : HasOneReading) (unit : HasOneUnit) (fine : IsNotRefused) whe
   trees_are text s t x y = unit within_limits (placed y.0) s t (subst (λ ts. Derives within_limits (placed ts) s) (tokens_are text x.0 y.0 x.1 y.1) x.2) y.2
 
   pub one_program : (text : List ℕ) (p q : CProgram) → Means text p → Means text q → p ≡ q
-  one_program text p q x y = ok_is p q (sym x.2 ∙ ap typed_unit (trees_are text x.0 y.0 x.1 y.1) ∙ y.2)
+  one_program text p q x y = ok_is p q (sym ((typed x.0 p).forward x.2) ∙ ap typed_unit (trees_are text x.0 y.0 x.1 y.1) ∙ (typed y.0 q).forward y.2)
 
   pub not_failed : (text : List ℕ) (t : UnitTree) (why : Refusal) (token line : ℕ) → Reads text t → FailsAt text why token line → ⊥
   not_failed text t why token line x y = fine (placed y.0) t why token (subst (λ ts. Derives within_limits (placed ts) t) (tokens_are text x.0 y.0 x.1 y.1) x.2) y.2
@@ -82,8 +84,8 @@ module _ (reading : HasOneReading) (unit : HasOneUnit) (fine : IsNotRefused) whe
   within p lower.NotBuilt text a h = h
   within p lower.Memory text a h = h
 
-  not_typed : (text : List ℕ) (p : CProgram) (f : TypeError) → Accepts text p → FailsToType text f → ⊥
-  not_typed text p f a h = no_error p f (sym a.0.2 ∙ ap typed_unit (trees_are text a.0.0 h.0 a.0.1 h.1) ∙ h.2)
+  pub not_typed : (text : List ℕ) (p : CProgram) (f : TypeError) → Means text p → FailsToType text f → ⊥
+  not_typed text p f m h = no_error p f (sym ((typed m.0 p).forward m.2) ∙ ap typed_unit (trees_are text m.0 h.0 m.1 h.1) ∙ (failing h.0 f).backward h.2)
 
   not_refused : (text : List ℕ) (p : CProgram) (e : CompileError) → Accepts text p → Refuses text e → ⊥
   not_refused text p (compile.Lex lex.Memory) a h = h
@@ -97,13 +99,13 @@ module _ (reading : HasOneReading) (unit : HasOneUnit) (fine : IsNotRefused) whe
   not_refused text p (compile.Parse (parse.TooDeep token line)) a h = not_failed text a.0.0 Refusal.TooDeep token line a.0.1 h
   not_refused text p (compile.Parse parse.Memory) a h = h
   not_refused text p (compile.Typing typing.Memory) a h = h
-  not_refused text p (compile.Typing (typing.Unknown l x)) a h = not_typed text p (typing.Unknown l x) a h
-  not_refused text p (compile.Typing (typing.Twice l x)) a h = not_typed text p (typing.Twice l x) a h
-  not_refused text p (compile.Typing (typing.BadType l n)) a h = not_typed text p (typing.BadType l n) a h
-  not_refused text p (compile.Typing typing.NoMain) a h = not_typed text p typing.NoMain a h
-  not_refused text p (compile.Typing (typing.TooLarge l n)) a h = not_typed text p (typing.TooLarge l n) a h
-  not_refused text p (compile.Typing (typing.TooManyParams l)) a h = not_typed text p (typing.TooManyParams l) a h
-  not_refused text p (compile.Typing (typing.TooManyFunctions l)) a h = not_typed text p (typing.TooManyFunctions l) a h
+  not_refused text p (compile.Typing (typing.Unknown l x)) a h = not_typed text p (typing.Unknown l x) a.0 h
+  not_refused text p (compile.Typing (typing.Twice l x)) a h = not_typed text p (typing.Twice l x) a.0 h
+  not_refused text p (compile.Typing (typing.BadType l n)) a h = not_typed text p (typing.BadType l n) a.0 h
+  not_refused text p (compile.Typing typing.NoMain) a h = not_typed text p typing.NoMain a.0 h
+  not_refused text p (compile.Typing (typing.TooLarge l n)) a h = not_typed text p (typing.TooLarge l n) a.0 h
+  not_refused text p (compile.Typing (typing.TooManyParams l)) a h = not_typed text p (typing.TooManyParams l) a.0 h
+  not_refused text p (compile.Typing (typing.TooManyFunctions l)) a h = not_typed text p (typing.TooManyFunctions l) a.0 h
   not_refused text p (compile.Layout f) a h = no_room p f a.1.objects (subst (λ q. DoNotFit q f) (one_program text h.0 p h.1 a.0) h.2)
   not_refused text p (compile.Lower f) a h = within p f text a (subst (λ q. PassesLimit q f) (one_program text h.0 p h.1 a.0) h.3)
   not_refused text p compile.Memory a h = h

@@ -1,23 +1,23 @@
 -- What compiling a text answers.
 use Rattle.std.specs.Prelude.{◌≡◌, ℕ, false, List, [], length, map, replicate, Result, Ok, Err}
-use Rattle.c_typed.specs.TypedTree.{CProgram}
-use Rattle.c_typed.specs.Counts.{nodes_of_program}
+use Rattle.typed_tree.specs.TypedTree.{CProgram}
+use Rattle.typed_tree.specs.Counts.{nodes_of_program}
 use Rattle.block_layout.specs.Answers.{IsLayout}
 use Rattle.injection.specs.Trail.{SafeSites}
 use Rattle.mid_code.specs.Code.{Program}
 use Rattle.mid_code.specs.Safe.{Safe, site_of}
 use Rattle.mid_code.specs.Views.{program_of}
-use Rattle.bounds_instr.specs.Code.{global_blocks, instrumented}
-use Rattle.bounds_instr.specs.Keeps.{Keeps}
-use Rattle.flat_verify.specs.Discipline.{IsDisciplined}
+use Rattle.bounds_instr_code.specs.Code.{global_blocks, instrumented}
+use Rattle.bounds_instr_keeps.specs.Keeps.{Keeps}
+use Rattle.flat_discipline.specs.Discipline.{IsDisciplined}
 use Rattle.rv_image.specs.declared.image.Image.{Image}
 use Rattle.rv_image.specs.Rules.{IsImage}
 use Rattle.rv_asm.specs.Runs.{IsResolved}
-use Rattle.rv_select.specs.Selection.{selected}
-use Rattle.rv_select.specs.Shape.{HasShape}
-use Rattle.lowering.specs.Built.{IsBuilt}
+use Rattle.rv_selected.specs.Selection.{selected}
+use Rattle.rv_selected.specs.Shape.{HasShape}
+use Rattle.lowering_counts.specs.Built.{IsBuilt}
 use Rattle.lowering.specs.Lowers.{IsCode}
-use Rattle.lowering.specs.declared.error.LowerError.TheVariants as lower
+use Rattle.lowering_counts.specs.declared.error.LowerError.TheVariants as lower
 use Rattle.size_table.specs.declared.memory_map.TheConstants.{TEXT_START, SLOT_EXPONENT}
 use Rattle.bb_driver.specs.declared.compile.Compiled.{Compiled}
 use Rattle.bb_driver.specs.declared.error.CompileError.{CompileError}

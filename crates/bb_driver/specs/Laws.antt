@@ -1,16 +1,16 @@
 -- What the layers of the compiler give, and that this makes an image right.
 use Rattle.std.specs.Prelude.{◌≡◌, ℕ, List, All}
-use Rattle.c_typed.specs.TypedTree.{CProgram}
+use Rattle.typed_tree.specs.TypedTree.{CProgram}
 use Rattle.injection.specs.Trail.{SafeSites}
 use Rattle.mid_code.specs.Code.{Program}
 use Rattle.mid_code.specs.Runs.{outcome}
-use Rattle.lowering.specs.Keeps as lowering
-use Rattle.bounds_instr.specs.Code.{global_blocks, frames_of}
-use Rattle.bounds_instr.specs.Keeps as instrumenting
+use Rattle.lowering_keeps.specs.Keeps as lowering
+use Rattle.bounds_instr_code.specs.Code.{global_blocks, frames_of}
+use Rattle.bounds_instr_keeps.specs.Keeps as instrumenting
 use Rattle.flat_code.specs.Code.{FCode}
 use Rattle.flat_code.specs.Run.{flat_run}
-use Rattle.flat_verify.specs.Discipline.{IsDisciplined}
-use Rattle.flat_verify.specs.Safe.{AreGlobals, AreFrames}
+use Rattle.flat_discipline.specs.Discipline.{IsDisciplined}
+use Rattle.flat_discipline.specs.Safe.{AreGlobals, AreFrames}
 use Rattle.flat_landing.specs.Lands.{outcome_of, RunsAs}
 use Rattle.rv_image.specs.declared.image.Image.{Image}
 use Rattle.rv_image.specs.Rules.{IsImage, slot_of}
@@ -40,4 +40,5 @@ pub record Layers (g : ℕ) (p : CProgram) (mid : Program) (safe : SafeSites) (f
 
 -- Then the image is right.
 abbrev pub LayersMakeRight : Type 0
-LayersMakeRight = (g : ℕ) (p : CProgram) (mid : Program) (safe : SafeSites) (flat : FCode) (image : Image) → Layers g p mid safe flat image → Right g p safe image
+LayersMakeRight = (g : ℕ) (p : CProgram) (mid : Program) (safe : SafeSites) (flat : FCode) (image : Image) → Layers g p mid safe flat image
+    → Right g p safe image

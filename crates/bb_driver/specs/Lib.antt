@@ -4,3 +4,4 @@ pub mod Laws
 pub mod Sources
 pub mod Compiles
 pub mod OneAnswer
+pub mod KeepsKinds

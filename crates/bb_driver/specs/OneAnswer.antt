@@ -1,6 +1,6 @@
 -- A text has one answer.
 use Rattle.std.specs.Prelude.{◌≡◌, ℕ, List}
-use Rattle.c_typed.specs.TypedTree.{CProgram}
+use Rattle.typed_tree.specs.TypedTree.{CProgram}
 use Rattle.bb_driver.specs.declared.error.CompileError.{CompileError}
 use Rattle.bb_driver.specs.Sources.{Means, Accepts, Refuses}
 

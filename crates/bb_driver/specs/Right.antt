@@ -1,13 +1,13 @@
 -- When an image is right for a program.
 use Rattle.std.specs.Prelude.{ℕ, List, All}
-use Rattle.c_typed.specs.TypedTree.{CProgram}
+use Rattle.typed_tree.specs.TypedTree.{CProgram}
 use Rattle.injection.specs.Trail.{SafeSites}
 use Rattle.source_meaning.specs.Runs.{outcome}
 use Rattle.rv_image.specs.declared.image.Image.{Image}
 use Rattle.rv_image.specs.Rules.{IsImage}
 use Rattle.rv_machine.specs.Formed.{IsByte, IsWord}
 use Rattle.rv_machine.specs.Machine.{machine_after}
-use Rattle.rv_machine.specs.Safety.{SafeRun}
+use Rattle.rv_machine_laws.specs.Safety.{SafeRun}
 use Rattle.bb_driver.specs.Same.{Same}
 
 -- It is an image, its runs are safe, and they mean what the program means, with these sites left unchecked: for every input

@@ -1,31 +1,31 @@
 -- Which texts are files of C that are accepted, with which program, and how others are refused.
-use Rattle.std.specs.Prelude.{◌≡◌, ℕ, ◌<◌, ◌≤◌, false, List, Result, Ok, Err}
+use Rattle.std.specs.Prelude.{◌≡◌, ℕ, ◌≤◌, false, List, Result, Ok, Err}
 use Rattle.c_lexer.specs.declared.fault.LexError.{LexError}
 use Rattle.c_lexer.specs.declared.fault.LexError.TheVariants as lex
 use Rattle.c_lexer.specs.Text.{Lexeme, Lexes, placed}
-use Rattle.c_tree.specs.Syntax.{UnitTree}
-use Rattle.c_tree.specs.Grammar.{Derives}
-use Rattle.c_tree.specs.GrammarLimits.{within_limits}
-use Rattle.c_tree.specs.GrammarRefusals.{Refusal, IsRefused, line_of}
+use Rattle.syntax_tree.specs.Syntax.{UnitTree}
+use Rattle.syntax_tree.specs.Grammar.{Derives}
+use Rattle.syntax_tree.specs.GrammarLimits.{within_limits}
+use Rattle.syntax_tree.specs.GrammarRefusals.{Refusal, IsRefused, line_of}
 use Rattle.c_parser.specs.declared.parser.ParseError.{ParseError}
 use Rattle.c_parser.specs.declared.parser.ParseError.TheVariants as parse
-use Rattle.c_rules.specs.declared.error.TypeError.{TypeError}
-use Rattle.c_rules.specs.declared.error.TypeError.TheVariants as typing
-use Rattle.c_typed.specs.TypedTree.{CProgram}
-use Rattle.c_typed.specs.Typed.{Typed, HasLines}
-use Rattle.c_typed.specs.TypedViews.{program_of}
-use Rattle.c_typed.specs.declared.typed.Program.{Program as TypedProgram}
-use Rattle.c_typing.specs.Units.{typed_unit}
+use Rattle.typing_operators.specs.declared.error.TypeError.{TypeError}
+use Rattle.typing_operators.specs.declared.error.TypeError.TheVariants as typing
+use Rattle.typed_tree.specs.TypedTree.{CProgram}
+use Rattle.typed_tree.specs.Typed.{Typed, HasLines}
+use Rattle.typed_tree.specs.TypedViews.{program_of}
+use Rattle.typed_tree.specs.declared.typed.Program.{Program as TypedProgram}
+use Rattle.typing_accepted.specs.AcceptanceFiles.{AcceptsUnit}
+use Rattle.typing_accepted.specs.AcceptanceLaws.{IsRefusedWith}
 use Rattle.block_layout.specs.Answers.{ObjectsFit, DoNotFit, IsLayout}
 use Rattle.block_layout.specs.declared.error.LayoutError.{LayoutError}
 use Rattle.block_layout.specs.declared.error.LayoutError.TheVariants as layout
 use Rattle.block_layout.specs.declared.globals.Layout.{Layout}
-use Rattle.lowering.specs.declared.error.LowerError.{LowerError}
-use Rattle.lowering.specs.declared.error.LowerError.TheVariants as lower
-use Rattle.lowering.specs.Lowers.{most_nodes, counted, IsFirstFull}
-use Rattle.lowering.specs.Laws.{HasRoom}
-use Rattle.lowering.specs.Built.{is_built}
-use Rattle.c_typed.specs.Counts.{nodes_of_program}
+use Rattle.lowering_counts.specs.declared.error.LowerError.{LowerError}
+use Rattle.lowering_counts.specs.declared.error.LowerError.TheVariants as lower
+use Rattle.lowering_counts.specs.Limits.{most_nodes, HasRoom, PassesLimit}
+use Rattle.lowering_counts.specs.Built.{is_built}
+use Rattle.typed_tree.specs.Counts.{nodes_of_program}
 use Rattle.bb_driver.specs.declared.error.CompileError.{CompileError}
 use Rattle.bb_driver.specs.declared.error.CompileError.TheVariants as compile
 
@@ -35,9 +35,9 @@ use Rattle.bb_driver.specs.declared.error.CompileError.TheVariants as compile
 abbrev pub Reads : List ℕ → UnitTree → Type 0
 Reads text tree = (tokens : List Lexeme) × Lexes text (Ok tokens) × Derives within_limits (placed tokens) tree
 
--- the text is a file of this typed program
+-- the text is a file that is accepted by the rules of typing, as this program (C11 6.5 to 6.9)
 abbrev pub Means : List ℕ → CProgram → Type 0
-Means text p = (tree : UnitTree) × Reads text tree × (typed_unit tree ≡ Ok p)
+Means text p = (tree : UnitTree) × Reads text tree × AcceptsUnit tree p
 
 -- the program's objects have room, it has at most 4,096 nodes, and no function too many values
 pub record IsWithinLimits (p : CProgram) : Type 0 where
@@ -56,18 +56,12 @@ IsAccepted text = (p : CProgram) × Accepts text p
 
 -- the grammar refuses the text so, at this token, which is on this line
 abbrev pub FailsAt : List ℕ → Refusal → (token line : ℕ) → Type 0
-FailsAt text why token line = (tokens : List Lexeme) × Lexes text (Ok tokens) × IsRefused (placed tokens) why token × (line ≡ line_of (placed tokens) token)
+FailsAt text why token line = (tokens : List Lexeme) × Lexes text (Ok tokens) × IsRefused (placed tokens) why token
+    × (line ≡ line_of (placed tokens) token)
 
--- typing refuses the file so
+-- typing refuses the file so, at the first of its parts that it does not accept
 abbrev pub FailsToType : List ℕ → TypeError → Type 0
-FailsToType text error = (tree : UnitTree) × Reads text tree × (typed_unit tree ≡ Err error)
-
--- the program passes a limit: that of the nodes first, then that of the values of a function
-abbrev pub PassesLimit : CProgram → LowerError → Type 0
-PassesLimit p (lower.TooManyNodes count) = (most_nodes < nodes_of_program p) × (count ≡ counted (nodes_of_program p))
-PassesLimit p (lower.TooManyValues name count) = (nodes_of_program p ≤ most_nodes) × IsFirstFull p.functions name count
-PassesLimit p lower.NotBuilt = ⊥
-PassesLimit p lower.Memory = ⊥
+FailsToType text error = (tree : UnitTree) × Reads text tree × IsRefusedWith tree error
 
 -- the text is refused so: by tokens, grammar, typing, room for objects and other limits, in this order
 abbrev pub Refuses : List ℕ → CompileError → Type 0
@@ -108,11 +102,6 @@ of_layout error = compile.Layout error
 abbrev pub of_lower : LowerError → CompileError
 of_lower lower.Memory = compile.Memory
 of_lower error = compile.Lower error
-
--- what lowering answers beside code: a limit, or a program that is accepted and not built
-abbrev pub limit_of : LowerError → Result Unit CompileError
-limit_of lower.NotBuilt = Ok tt
-limit_of error = Err (of_lower error)
 
 -- the typed program is that of the text, and keeps the rules of typing; or the refusal is that of the text, and no limit
 abbrev pub ReadsProgram : List ℕ → Result TypedProgram CompileError → Type 0

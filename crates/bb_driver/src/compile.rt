@@ -1,7 +1,7 @@
 //! From a text to its image.
 ghost use Rattle.std.specs.Prelude.{◌<◌, ◌^◌, length};
-ghost use Rattle.c_typed.specs.TypedTree.{CProgram};
-ghost use Rattle.lowering.specs.Built.{IsBuilt};
+ghost use Rattle.typed_tree.specs.TypedTree.{CProgram};
+ghost use Rattle.lowering_counts.specs.Built.{IsBuilt};
 ghost use Rattle.bb_driver.specs.Sources.{Accepts};
 ghost use Rattle.bb_driver.specs.Compiles.{Compiles, IsAnswered};
 
@@ -11,8 +11,8 @@ use crate::laws::{layers_make_right, one_answer};
 use crate::source::{lay_out, read};
 use bb_words::list::List;
 use block_layout::globals::Layout;
-use lowering::limits::nodes_of;
 use lowering::lower::lower;
+use lowering_counts::limits::nodes_of;
 use mid_code::code::Mid;
 use mid_code::safe::SafeSites;
 use rv_image::image::Image;

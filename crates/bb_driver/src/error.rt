@@ -2,10 +2,10 @@
 use block_layout::error::LayoutError;
 use c_lexer::LexError;
 use c_parser::ParseError;
-use c_rules::error::TypeError;
-use lowering::error::LowerError;
+use lowering_counts::error::LowerError;
 use std::alloc::AllocError;
 use thiserror::Error;
+use typing_operators::error::TypeError;
 
 /// The first refusal of a source, in the order of the layers of the compiler. No inner error is want of memory.
 #[derive(Debug, Drop, Error)]

@@ -4,8 +4,8 @@ ghost use Rattle.mid_code.specs.Formed.{Formed};
 ghost use Rattle.mid_code.specs.Views.{program_of};
 ghost use Rattle.mid_code.specs.Weight.{weight};
 ghost use Rattle.size_table.specs.declared.memory_map.TheConstants.{SLOT_EXPONENT};
-ghost use Rattle.bounds_instr.specs.Built.{is_built};
-ghost use Rattle.bounds_instr.specs.Code.{global_blocks};
+ghost use Rattle.bounds_instr_code.specs.Built.{is_built};
+ghost use Rattle.bounds_instr_code.specs.Code.{global_blocks};
 ghost use Rattle.bb_driver.specs.Compiles.{IsMade};
 
 use bb_words::list::{Bytes, List};
@@ -17,8 +17,8 @@ use flat_verify::verify::verify;
 use mid_code::code::Mid;
 use rv_asm::resolve::resolve;
 use rv_image::image::Image;
-use rv_select::laws::texts_have_shape;
 use rv_select::select::select;
+use rv_selected::laws::texts_have_shape;
 use size_table::memory_map::{SLOT_EXPONENT, TEXT_START};
 use std::alloc::{AllocError, Global};
 

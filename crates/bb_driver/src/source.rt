@@ -1,8 +1,8 @@
 //! From a text to its typed program.
-ghost use Rattle.std.specs.Prelude.{◌≡◌, ◌<◌, ◌^◌, length};
-ghost use Rattle.c_typed.specs.Typed.{Typed};
-ghost use Rattle.c_typed.specs.TypedViews.{program_of};
-ghost use Rattle.bb_driver.specs.Sources.{ReadsProgram, LaysOut, Checks, limit_of};
+ghost use Rattle.std.specs.Prelude.{◌<◌, ◌^◌, length};
+ghost use Rattle.typed_tree.specs.Typed.{Typed};
+ghost use Rattle.typed_tree.specs.TypedViews.{program_of};
+ghost use Rattle.bb_driver.specs.Sources.{ReadsProgram, LaysOut, Checks};
 
 use crate::error::CompileError;
 use block_layout::frame::frame;
@@ -10,12 +10,12 @@ use block_layout::globals::{Layout, globals};
 use block_layout::laws::typed_has_small_objects;
 use c_lexer::lex;
 use c_parser::parse;
-use c_places::text_is_in_range;
-use c_typed::typed::Program;
-use c_typing::unit::type_unit;
-use lowering::error::LowerError;
-use lowering::lower::lower;
+use lowering_counts::limits::within_limits;
 use std::alloc::Global;
+use syntax_in_range::text_is_in_range;
+use typed_tree::typed::Program;
+use typing_accepted::laws::{accepted_is_typed, files_fail_at_first};
+use typing_unit::unit::type_unit;
 
 /// The typed program of a text (C11 5.1.1.2, 6.4 to 6.9), or the first refusal of tokens, grammar and typing.
 pub fn read(alloc: Global, text: &[u8]) -> Result<Program, CompileError>
@@ -23,9 +23,12 @@ pub fn read(alloc: Global, text: &[u8]) -> Result<Program, CompileError>
     ensures { ReadsProgram text.now result }
 {
     text_is_in_range();
+    accepted_is_typed();
+    files_fail_at_first();
     let tokens = lex(alloc, text)?;
     let unit = parse(alloc, &tokens)?;
-    Ok(type_unit(alloc, &unit)?)
+    let program = type_unit(alloc, &unit)?;
+    Ok(program)
 }
 
 /// Where the global objects of a typed program lie; or the first of its objects that have no room: the global ones, or the block
@@ -42,16 +45,6 @@ pub fn lay_out(alloc: Global, program: &Program) -> Result<Layout, CompileError>
     Ok(layout)
 }
 
-/// What a limit refuses; what is only not built is accepted.
-fn limit_of(error: LowerError) -> Result<(), CompileError>
-    ensures { result ≡ limit_of error }
-{
-    match error {
-        LowerError::NotBuilt => Ok(()),
-        error => Err(CompileError::from(error)),
-    }
-}
-
 /// Whether a text is accepted: read, and within the limits of the compiler.
 pub fn check(alloc: Global, text: &[u8]) -> Result<(), CompileError>
     requires { length text.now < 2 ^ 32 }
@@ -59,8 +52,6 @@ pub fn check(alloc: Global, text: &[u8]) -> Result<(), CompileError>
 {
     let program = read(alloc, text)?;
     lay_out(alloc, &program)?;
-    match lower(alloc, &program) {
-        Ok(_) => Ok(()),
-        Err(error) => limit_of(error),
-    }
+    within_limits(alloc, &program)?;
+    Ok(())
 }

@@ -46,7 +46,8 @@ impl MemShelf {
         ensures others { (other : List ℕ) → other ≢ name.now → file_of self.new other ≡ file_of self.old other }
         ensures err { OnErr result ((other : List ℕ) → file_of self.new other ≡ file_of self.old other) }
         ensures failing { failing_of self.new ≡ failing_of self.old }
-        ensures counts { (calls_of self.new ≡ calls_of self.old) × (faults_of self.new ≡ faults_of self.old) × (misses_of self.new ≡ misses_of self.old) }
+        ensures counts { (calls_of self.new ≡ calls_of self.old) × (faults_of self.new ≡ faults_of self.old)
+            × (misses_of self.new ≡ misses_of self.old) }
     {
         let key = String::from_str(self.alloc, name)?;
         let value = Vec::from_slice(self.alloc, bytes)?;

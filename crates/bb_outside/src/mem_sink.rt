@@ -1,5 +1,6 @@
 //! A sink in memory.
-ghost use Rattle.std.specs.Prelude.{◌≡◌, ◌↔◌, ◌⊎◌, ◌-◌, min, IfOk, IsErr, Some, [], ◌≢◌, ◌≤◌, Contains, length, is_err, if◌then◌else◌};
+ghost use Rattle.std.specs.Prelude.{◌≡◌, ◌↔◌, ◌⊎◌, ◌-◌, min, IfOk, IsErr, Some, []};
+ghost use Rattle.std.specs.Prelude.{◌≢◌, ◌≤◌, Contains, length, is_err, if◌then◌else◌};
 ghost use Rattle.bb_outside.specs.Causes.{counted, HasCause};
 ghost use Rattle.bb_outside.specs.Streams.{TakesSome, Puts};
 

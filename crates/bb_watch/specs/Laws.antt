@@ -24,7 +24,8 @@ EverAppends = (ever : List Block) (xs ys : List Event) → ever_of ever (xs ++ y
 
 -- each event of two lists is so exactly if each of the first is, and then each of the second, by the blocks after the first
 abbrev pub EachAppends : (List Block → List Block → Event → Type 0) → Type 0
-EachAppends P = (live ever : List Block) (xs ys : List Event) → Each P live ever (xs ++ ys) ↔ (Each P live ever xs × Each P (live_of live xs) (ever_of ever xs) ys)
+EachAppends P = (live ever : List Block) (xs ys : List Event) → Each P live ever (xs ++ ys)
+    ↔ (Each P live ever xs × Each P (live_of live xs) (ever_of ever xs) ys)
 
 -- the places that are open after further events
 abbrev pub open_on : Option (List ℕ) → List Event → Option (List ℕ)

@@ -1,5 +1,6 @@
 -- Which events are safe, by the blocks that are live: bounds of pointers and accesses, and calls and returns.
-use Rattle.std.specs.Prelude.{◌≡◌, ◌≢◌, ◌==◌, ◌⊎◌, ℕ, ◌+◌, ◌-◌, ◌/◌, ◌^◌, ◌<◌, ◌≤◌, false, List, [], ◌∷◌, Option, Some, None, IsSome, if◌then◌else◌}
+use Rattle.std.specs.Prelude.{◌≡◌, ◌≢◌, ◌==◌, ◌⊎◌, ℕ, ◌+◌, ◌-◌, ◌/◌, ◌^◌, ◌<◌}
+use Rattle.std.specs.Prelude.{◌≤◌, false, List, [], ◌∷◌, Option, Some, None, IsSome, if◌then◌else◌}
 use Rattle.bb_watch.specs.declared.event.Event.{Event}
 use Rattle.bb_watch.specs.declared.event.Event.TheVariants.{Move, Access, Call, Return}
 use Rattle.bb_watch.specs.Live.{live_after, ever_after, holder, owner}

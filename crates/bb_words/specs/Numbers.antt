@@ -1,6 +1,7 @@
 -- What the operations of RV32IM answer: words are numbers below 2^32.
 -- RISC-V Unprivileged ISA, chapters "RV32I" (integer computations) and "M" (multiplication and division).
-use Rattle.std.specs.Prelude.{◌==◌, ℕ, ◌+◌, ◌-◌, ◌*◌, ◌/◌, ◌%◌, ◌^◌, ℤ, pos, negsuc, ◌*ℤ◌, if◌then◌else◌, int_lt, int_div, int_rem, nat_lt}
+use Rattle.std.specs.Prelude.{◌==◌, ℕ, ◌+◌, ◌-◌, ◌*◌, ◌/◌, ◌%◌, ◌^◌, ℤ, pos}
+use Rattle.std.specs.Prelude.{negsuc, ◌*ℤ◌, if◌then◌else◌, int_lt, int_div, int_rem, nat_lt}
 use Rattle.std.specs.Int.{w32, cast_signed, cast_unsigned}
 
 -- the signed reading of a word, in two's complement

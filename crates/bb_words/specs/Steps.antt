@@ -6,7 +6,9 @@ use Rattle.bb_words.specs.declared.steps.ArithOp.{ArithOp}
 use Rattle.bb_words.specs.declared.steps.ArithOp.TheVariants as op
 use Rattle.bb_words.specs.declared.steps.DivideOp.{DivideOp}
 use Rattle.bb_words.specs.declared.steps.DivideOp.TheVariants as divide
-use Rattle.bb_words.specs.Numbers.{signed, sum, difference, product, signed_high_product, mixed_high_product, unsigned_high_product, signed_quotient, unsigned_quotient, signed_remainder, unsigned_remainder, left_shift, right_shift, signed_right_shift, signed_below, unsigned_below}
+use Rattle.bb_words.specs.Numbers.{signed, sum, difference, product, signed_high_product, mixed_high_product}
+use Rattle.bb_words.specs.Numbers.{unsigned_high_product, signed_quotient, unsigned_quotient, signed_remainder}
+use Rattle.bb_words.specs.Numbers.{unsigned_remainder, left_shift, right_shift, signed_right_shift, signed_below, unsigned_below}
 
 -- how many bytes an access has
 abbrev pub size_of_width : Width → ℕ

@@ -1,5 +1,5 @@
 //! A list that contracts see as the list of its elements.
-ghost use Rattle.std.specs.Prelude.{◌≡◌, [], ◌∷◌, ◌++◌, length, OnOk, OnErr};
+ghost use Rattle.std.specs.Prelude.{◌≡◌, [], ◌∷◌, ◌++◌, length, OnOk, OnErr, IfOk};
 
 use std::alloc::{AllocError, Global};
 use std::marker::Model;
@@ -64,5 +64,14 @@ impl<T: Drop> List<T> {
     {
         self.items.push(item)?;
         Ok(())
+    }
+}
+
+impl List<u8> {
+    /// The same bytes in memory of their own.
+    pub fn copy_of(alloc: Global, bytes: &[u8]) -> Result<Bytes, AllocError>
+        ensures { IfOk result (λ copy. copy ≡ bytes.now) }
+    {
+        Ok(List::from_vec(Vec::from_slice(alloc, bytes)?))
     }
 }

@@ -1,7 +1,9 @@
 //! Words of 32 bits, and the operations on them.
 ghost use Rattle.std.specs.Prelude.{◌≡◌, ◌*ℤ◌};
 ghost use Rattle.std.specs.Int.{to_le_bytes, from_le_bytes, w32};
-ghost use Rattle.bb_words.specs.Numbers.{sum, difference, product, signed_high_product, mixed_high_product, unsigned_high_product, signed_quotient, unsigned_quotient, signed_remainder, unsigned_remainder, left_shift, right_shift, signed_right_shift, signed_below, unsigned_below, signed, word_of, floor_shift};
+ghost use Rattle.bb_words.specs.Numbers.{sum, difference, product, signed_high_product, mixed_high_product, unsigned_high_product};
+ghost use Rattle.bb_words.specs.Numbers.{signed_quotient, unsigned_quotient, signed_remainder, unsigned_remainder, left_shift};
+ghost use Rattle.bb_words.specs.Numbers.{right_shift, signed_right_shift, signed_below, unsigned_below, signed, word_of, floor_shift};
 
 /// A word, the content of a register of RV32I: a number below 2^32.
 #[derive(Clone, Copy, Debug, PartialEq, Eq)]

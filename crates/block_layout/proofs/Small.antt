@@ -3,10 +3,10 @@ use Rattle.std.specs.Prelude.{map, slice_get, All, Some}
 use Rattle.std.proofs.Common.{◌≡◌, ℕ, zero, suc, ◌+◌, ◌≤◌, Bool, true, false, cond, List, [], ◌∷◌, ◌++◌, length, refl, sym, ap, ◌∙◌, subst, arith}
 use Rattle.std.proofs.lemmas.List.Elements.{All-nil, All-cons, All-head, All-tail}
 use Rattle.size_table.specs.declared.memory_map.TheConstants.{MOST_BYTES}
-use Rattle.c_typed.specs.Sizes.{largest, size_of}
-use Rattle.c_typed.specs.TypedTree.{CLocal, CFunction, CGlobal, CProgram}
-use Rattle.c_typed.specs.TypedLaws.{TypesAreSmall}
-use Rattle.c_typed.specs.Typed.{IsGlobalObject, IsLocalObject, IsString, IsFunction, Typed}
+use Rattle.typed_tree.specs.Sizes.{largest, size_of}
+use Rattle.typed_tree.specs.TypedTree.{CLocal, CFunction, CGlobal, CProgram}
+use Rattle.typed_tree.specs.TypedLaws.{TypesAreSmall}
+use Rattle.typed_tree.specs.Typed.{IsGlobalObject, IsLocalObject, IsString, IsFunction, Typed}
 use Rattle.block_layout.specs.Layout.{Item, AreSmall}
 use Rattle.block_layout.specs.Objects.{Stored, numbered, items_of, globals_of, global_items, block_items_from, block_items, stored_global, stored_text}
 use Rattle.block_layout.specs.Laws.{TypedHasSmallObjects}

@@ -4,8 +4,8 @@ use Rattle.std.proofs.Common.{◌≡◌, ℕ, zero, suc, ◌+◌, ◌-◌, ◌^�
 use Rattle.std.proofs.lemmas.List.{length-map, length-append}
 use Rattle.size_table.specs.declared.memory_map.TheConstants.{SLOT_EXPONENT, GLOBALS_START, MOST_BYTES}
 use Rattle.size_table.specs.Pads.{exponent_of}
-use Rattle.c_typed.specs.declared.typed.Global.{Global}
-use Rattle.c_typed.specs.TypedViews.{global_of}
+use Rattle.typed_tree.specs.declared.typed.Global.{Global}
+use Rattle.typed_tree.specs.TypedViews.{global_of}
 use Rattle.block_layout.specs.Layout.{Item, Placed, AreSmall, pad, declining, placed_from, layout, total_of}
 use Rattle.block_layout.specs.Objects.{numbered, stored_global, stored_text}
 use Rattle.block_layout.specs.Answers.{object_at, global_at, block_at}

@@ -1,8 +1,9 @@
 -- What laying out a program answers: its layout, or what has no room.
-use Rattle.std.specs.Prelude.{◌≡◌, ℕ, ◌+◌, ◌-◌, ◌<◌, ◌≤◌, nat_lt, min, if◌then◌else◌, All, List, length, map, take, Some, slice_get, Result, Ok, Err}
-use Rattle.c_typed.specs.declared.typed.GlobalObject.{GlobalObject}
-use Rattle.c_typed.specs.declared.typed.GlobalObject.TheVariants.{Named, Text}
-use Rattle.c_typed.specs.TypedTree.{CFunction, CProgram}
+use Rattle.std.specs.Prelude.{◌≡◌, ℕ, ◌+◌, ◌-◌, ◌<◌, ◌≤◌, nat_lt, min}
+use Rattle.std.specs.Prelude.{if◌then◌else◌, All, List, length, map, take, Some, slice_get, Result, Ok, Err}
+use Rattle.typed_tree.specs.declared.typed.GlobalObject.{GlobalObject}
+use Rattle.typed_tree.specs.declared.typed.GlobalObject.TheVariants.{Named, Text}
+use Rattle.typed_tree.specs.TypedTree.{CFunction, CProgram}
 use Rattle.size_table.specs.declared.memory_map.TheConstants.{SLOT_EXPONENT, GLOBALS_START}
 use Rattle.block_layout.specs.Layout as layout
 use Rattle.block_layout.specs.Layout.{layout, total_of, alignment_of}

@@ -1,8 +1,8 @@
 -- What follows for every layout.
 use Rattle.std.specs.Prelude.{◌≡◌, ℕ, ◌+◌, ◌%◌, ◌^◌, ◌≤◌, All, List, [], ◌∷◌, length}
 use Rattle.size_table.specs.Pads.{IsExponentOf}
-use Rattle.c_typed.specs.TypedTree.{CProgram}
-use Rattle.c_typed.specs.Typed.{Typed}
+use Rattle.typed_tree.specs.TypedTree.{CProgram}
+use Rattle.typed_tree.specs.Typed.{Typed}
 use Rattle.block_layout.specs.Layout.{Item, Placed, AreSmall, layout, total_of}
 use Rattle.block_layout.specs.Objects.{global_items, block_items}
 

@@ -1,7 +1,8 @@
 -- How objects are padded and laid out (Akritidis et al., Baggy Bounds Checking, section 3): each object is padded to a
 -- power of two of at least a slot, and objects lie one after another by declining padded size, so that each begins at a
 -- multiple of its own. A slot has 2 ^ g bytes.
-use Rattle.std.specs.Prelude.{◌==◌, ◌≤◌, ℕ, zero, suc, ◌+◌, ◌-◌, ◌*◌, ◌/◌, ◌^◌, List, [], ◌∷◌, ◌++◌, if◌then◌else◌}
+use Rattle.std.specs.Prelude.{◌==◌, ◌≤◌, ℕ, zero, suc, ◌+◌, ◌-◌, ◌*◌}
+use Rattle.std.specs.Prelude.{◌/◌, ◌^◌, List, [], ◌∷◌, ◌++◌, if◌then◌else◌}
 use Rattle.size_table.specs.declared.memory_map.TheConstants.{MOST_BYTES}
 use Rattle.size_table.specs.Pads.{exponent_of}
 

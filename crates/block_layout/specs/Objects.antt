@@ -1,10 +1,10 @@
 -- The objects of a program that lie in memory: its global objects, and the block locals of each function.
 use Rattle.std.specs.Prelude.{ℕ, suc, ◌+◌, List, [], ◌∷◌, ◌++◌, length, map, if◌then◌else◌}
-use Rattle.c_typed.specs.declared.typed.GlobalObject.{GlobalObject}
-use Rattle.c_typed.specs.declared.typed.GlobalObject.TheVariants.{Named, Text}
-use Rattle.c_typed.specs.declared.typed.InitialByte.{InitialByte}
-use Rattle.c_typed.specs.declared.typed.InitialByte.TheVariants.{Byte}
-use Rattle.c_typed.specs.TypedTree.{CGlobal, CLocal, CFunction, CProgram}
+use Rattle.typed_tree.specs.declared.typed.GlobalObject.{GlobalObject}
+use Rattle.typed_tree.specs.declared.typed.GlobalObject.TheVariants.{Named, Text}
+use Rattle.typed_tree.specs.declared.typed.InitialByte.{InitialByte}
+use Rattle.typed_tree.specs.declared.typed.InitialByte.TheVariants.{Byte}
+use Rattle.typed_tree.specs.TypedTree.{CGlobal, CLocal, CFunction, CProgram}
 use Rattle.block_layout.specs.Layout.{Item}
 
 -- objects of these lengths, numbered one after another

@@ -1,6 +1,6 @@
 //! The layout of a function's block locals.
 ghost use Rattle.std.specs.Prelude.{◌≡◌, IfOk, map};
-ghost use Rattle.c_typed.specs.TypedViews.{local_of, function_of};
+ghost use Rattle.typed_tree.specs.TypedViews.{local_of, function_of};
 ghost use Rattle.size_table.specs.declared.memory_map.TheConstants.{SLOT_EXPONENT};
 ghost use Rattle.block_layout.specs.Layout.{AreSmall, alignment_of};
 ghost use Rattle.block_layout.specs.Objects.{block_items, block_items_from};
@@ -10,10 +10,9 @@ ghost use Rattle.block_layout.specs.Views.{item_of, placed_of, block_of_spot};
 use crate::error::LayoutError;
 use crate::object::{Object, Spot, add, laid_out, total_of};
 use bb_words::list::List;
-use c_typed::typed::{Function, Local};
-use c_words::place::Name;
 use size_table::memory_map::SLOT_EXPONENT;
 use std::alloc::{AllocError, Global};
+use typed_tree::typed::{Function, Local};
 
 /// How many bytes the block locals of a function may have with their padding.
 const MOST_FRAME_BYTES: u64 = 0x40_0000;
@@ -79,15 +78,6 @@ fn align(spots: &[Spot]) -> u8
     }
 }
 
-/// A name of its own.
-fn copy(alloc: Global, name: &Name) -> Result<Name, AllocError>
-    ensures { IfOk result (λ copy. copy ≡ name.now) }
-{
-    let mut copy = Vec::new(alloc);
-    copy.extend_from_slice(name.as_slice())?;
-    Ok(List::from_vec(copy))
-}
-
 /// The layout of a function's block locals, which is the same in each of its calls. `FrameFull` exactly where the blocks have
 /// more than 4,194,304 bytes together.
 pub fn frame(alloc: Global, function: &Function) -> Result<FramePlan, LayoutError>
@@ -97,7 +87,7 @@ pub fn frame(alloc: Global, function: &Function) -> Result<FramePlan, LayoutErro
     let objects = objects(alloc, function.locals.as_slice())?;
     let total = total_of(&objects);
     if total > MOST_FRAME_BYTES {
-        let function = copy(alloc, &function.name)?;
+        let function = List::copy_of(alloc, function.name.as_slice())?;
         return Err(LayoutError::FrameFull { function, total });
     }
     let spots = laid_out(alloc, &objects, 0)?;

@@ -1,6 +1,6 @@
 //! The layout of the global objects.
 ghost use Rattle.std.specs.Prelude.{◌≡◌, ◌<◌, ◌^◌, ◌++◌, IfOk, OnOk, [], length, map};
-ghost use Rattle.c_typed.specs.TypedViews.{global_of, program_of};
+ghost use Rattle.typed_tree.specs.TypedViews.{global_of, program_of};
 ghost use Rattle.block_layout.specs.Layout.{AreSmall};
 ghost use Rattle.block_layout.specs.Objects.{global_items};
 ghost use Rattle.block_layout.specs.Answers.{object_at, IsGlobals};
@@ -9,9 +9,9 @@ ghost use Rattle.block_layout.specs.Views.{item_of, placed_of, global_of_spot};
 use crate::error::LayoutError;
 use crate::object::{Object, Spot, add, laid_out, total_of};
 use bb_words::list::List;
-use c_typed::typed::{GlobalObject, Program};
 use size_table::memory_map::GLOBALS_START;
 use std::alloc::{AllocError, Global};
+use typed_tree::typed::{GlobalObject, Program};
 
 /// How many bytes the global objects may have with their padding.
 const MOST_GLOBAL_BYTES: u64 = 0x20_0000;

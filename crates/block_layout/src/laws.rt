@@ -12,5 +12,5 @@ pub fn layouts_lie_well()
 pub fn typed_has_small_objects()
     ensures { TypedHasSmallObjects }
 {
-    c_typed::typed_laws::types_are_small();
+    typed_tree::typed_laws::types_are_small();
 }

@@ -97,7 +97,8 @@ pub fn add(objects: &mut Vec<Object>, number: usize, length: u32) -> Result<(), 
 pub fn laid_out(alloc: Global, objects: &[Object], start: u32) -> Result<Vec<Spot>, AllocError>
     requires small { AreSmall (map item_of objects.now) }
     requires room { start + total_of SLOT_EXPONENT (map item_of objects.now) < 2 ^ 32 }
-    ensures { IfOk result (λ spots. map placed_of spots.items ≡ placed_from SLOT_EXPONENT start (declining SLOT_EXPONENT (25 - SLOT_EXPONENT) (map item_of objects.now))) }
+    ensures { IfOk result (λ spots. map placed_of spots.items
+        ≡ placed_from SLOT_EXPONENT start (declining SLOT_EXPONENT (25 - SLOT_EXPONENT) (map item_of objects.now))) }
 {
     exponent_is_least();
     let ordered = declining(alloc, objects)?;

@@ -1,16 +1,1 @@
-pub mod Words
-pub mod Follow
-pub mod Meets
-pub mod Temporaries
-pub mod Orders
-pub mod Accesses
-pub mod Moves
-pub mod Heap
-pub mod Fits
-pub mod Steps
-pub mod Frames
-pub mod Calls
-pub mod Accepted
-pub mod Light
-pub mod Emitted
 pub mod Whole

@@ -6,13 +6,13 @@ use Rattle.flat_code.specs.declared.code.Flat.{Flat}
 use Rattle.flat_code.specs.Code.{FCode}
 use Rattle.flat_code.specs.CodeViews.{code_of}
 use Rattle.flat_code.specs.Weight as flat
-use Rattle.flat_verify.specs.Discipline.{IsDisciplined}
+use Rattle.flat_discipline.specs.Discipline.{IsDisciplined}
 use Rattle.bounds_instr.specs.declared.error.InstrError.{InstrError}
 use Rattle.bounds_instr.specs.declared.error.InstrError.TheVariants.{NotBuilt, Memory}
-use Rattle.bounds_instr.specs.Built.{is_built}
-use Rattle.bounds_instr.specs.Code.{global_blocks, instrumented}
-use Rattle.bounds_instr.specs.Keeps.{Keeps}
-use Rattle.bounds_instr.specs.Laws.{beside}
+use Rattle.bounds_instr_code.specs.Built.{is_built}
+use Rattle.bounds_instr_code.specs.Code.{global_blocks, instrumented}
+use Rattle.bounds_instr_keeps.specs.Keeps.{Keeps}
+use Rattle.bounds_instr_accepted.specs.Laws.{beside}
 
 -- This is the code of the program, for slots of 2 ^ g bytes; it does what the program does, keeps the discipline, and weighs
 -- no more than the program, the start code and the library.

@@ -1,5 +1,6 @@
 //! The blocks of the heap.
-ghost use Rattle.std.specs.Prelude.{◌≡◌, ◌+◌, ◌-◌, ◌*◌, ◌/◌, ◌^◌, ◌<◌, ◌≤◌, [], length, vec_len, vec_capacity, IfOk, IfNone, IfSome, IfErr};
+ghost use Rattle.std.specs.Prelude.{◌≡◌, ◌+◌, ◌-◌, ◌*◌, ◌/◌, ◌^◌, ◌<◌, ◌≤◌};
+ghost use Rattle.std.specs.Prelude.{[], length, vec_len, vec_capacity, IfOk, IfNone, IfSome, IfErr};
 ghost use Rattle.std.specs.List.{insert};
 ghost use Rattle.size_table.specs.Blocks.{IsBlock, block_at};
 ghost use Rattle.buddy_heap.specs.Places.{place_of, is_clear, with_block, blocks_of, HaveExponents, count_to, index_of, IsExponentAt, IsGiven};

@@ -182,11 +182,11 @@ faulty_quote quote bs f q u = rw (u.parts) (by_why u.why)
 string_outcome : (bs : List ℕ) → IsOutcome (34 ∷ bs) (string_at (34 ∷ bs))
 string_outcome bs = by_quoted (quoted_at 34 (34 ∷ bs)) (quoted_found 34 34 bs (inl refl))
   where
-    by_quoted : (r : Result (List ℕ × ℕ) Fault) → Outcome 34 bs r → IsOutcome (34 ∷ bs) (r >>= λ x. Ok (Some (Token.Text x.0), x.1))
+    by_quoted : (r : Result (List ℕ × ℕ) Fault) → Outcome 34 bs r → IsOutcome (34 ∷ bs) (r >>= λ x. Ok (Some (Token.StringLiteral x.0), x.1))
     by_quoted (Err f) u = faulty_quote 34 bs f (inl refl) u
     by_quoted (Ok x) q =
         let parts : 34 ∷ bs ≡ (34 ∷ (q.inside ++ 34 ∷ [])) ++ q.rest = ap (λ t. 34 ∷ t) (q.parts ∙ sym (append_assoc q.inside (34 ∷ []) q.rest)) in
-        of_parts (34 ∷ bs) (34 ∷ (q.inside ++ 34 ∷ [])) q.rest (Some (Token.Text x.0)) x.1 parts (omega (arith, q.size, length-append q.inside (34 ∷ []))) (omega arith)
+        of_parts (34 ∷ bs) (34 ∷ (q.inside ++ 34 ∷ [])) q.rest (Some (Token.StringLiteral x.0)) x.1 parts (omega (arith, q.size, length-append q.inside (34 ∷ []))) (omega arith)
         (IsPiece.text q.inside q.rest x.0 q.elements)
 
 character_outcome : (bs : List ℕ) → IsOutcome (39 ∷ bs) (character_at (39 ∷ bs))
@@ -384,11 +384,11 @@ comment_again _ rest (line inside _ run) =
     let n : run_len class.Line (47 ∷ 47 ∷ (inside ++ rest)) ≡ suc (suc (length inside)) = line_len (47 ∷ 47 ∷ (inside ++ rest)) ∙ ap (λ k. suc (suc k)) (run_again (λ _ b. not (eqb b 10)) 47 inside rest r) in
     at_slash (47 ∷ (inside ++ rest)) ∙ ap (found None) n
 
-mark_piece_again : (s rest : List ℕ) (m : Punctuator) → IsLongest s m (s ++ rest) → BeginsNoComment (s ++ rest) → piece_at (s ++ rest) ≡ found (Some (Token.Mark m)) (length s)
+mark_piece_again : (s rest : List ℕ) (m : Punctuator) → IsLongest s m (s ++ rest) → BeginsNoComment (s ++ rest) → piece_at (s ++ rest) ≡ found (Some (Token.Punctuator m)) (length s)
 unfolding found
 mark_piece_again s rest m l n = by_spelling s (at_row IsMarkStart s m punctuators marks_start l.is_punctuator) (mark_again s (s ++ rest) m l) n
   where
-    by_slash : (b : ℕ) (t : List ℕ) → IsOther b → (x : Bool) → eqb b 47 ≡ x → mark_at (b ∷ (t ++ rest)) ≡ Ok (Some (Token.Mark m), length (b ∷ t)) → BeginsNoComment (b ∷ (t ++ rest)) → piece_at (b ∷ (t ++ rest)) ≡ Ok (Some (Token.Mark m), length (b ∷ t))
+    by_slash : (b : ℕ) (t : List ℕ) → IsOther b → (x : Bool) → eqb b 47 ≡ x → mark_at (b ∷ (t ++ rest)) ≡ Ok (Some (Token.Punctuator m), length (b ∷ t)) → BeginsNoComment (b ∷ (t ++ rest)) → piece_at (b ∷ (t ++ rest)) ≡ Ok (Some (Token.Punctuator m), length (b ∷ t))
     by_slash b t o false i e n = at_other b (t ++ rest) o i ∙ e
     by_slash b t o true i e n =
         let is = eqb-true b 47 i in
@@ -396,7 +396,7 @@ mark_piece_again s rest m l n = by_spelling s (at_row IsMarkStart s m punctuator
         let read : slash_at (47 ∷ (t ++ rest)) ≡ mark_at (47 ∷ (t ++ rest)) = rw (behind.0, behind.1) refl in
         ap (λ x. piece_at (x ∷ (t ++ rest))) is ∙ at_slash (t ++ rest) ∙ read ∙ ap (λ x. mark_at (x ∷ (t ++ rest))) (sym is) ∙ e
 
-    by_spelling : (s : List ℕ) → IsMarkStart (s, m) → mark_at (s ++ rest) ≡ Ok (Some (Token.Mark m), length s) → BeginsNoComment (s ++ rest) → piece_at (s ++ rest) ≡ Ok (Some (Token.Mark m), length s)
+    by_spelling : (s : List ℕ) → IsMarkStart (s, m) → mark_at (s ++ rest) ≡ Ok (Some (Token.Punctuator m), length s) → BeginsNoComment (s ++ rest) → piece_at (s ++ rest) ≡ Ok (Some (Token.Punctuator m), length s)
     by_spelling [] i e n = absurd cc
     by_spelling (b ∷ t) i e n = by_slash b t (other_is b i.1) (eqb b 47) refl e n
 
@@ -417,13 +417,13 @@ piece_again _ rest _ (IsPiece.character s _ v i) =
 piece_again _ rest _ (IsPiece.text s _ vs i) =
     let parts : (s ++ 34 ∷ []) ++ rest ≡ s ++ 34 ∷ rest = append_assoc s (34 ∷ []) rest in
     let len : length s + 2 ≡ length (34 ∷ (s ++ 34 ∷ [])) = omega (arith, length-append s (34 ∷ [])) in
-    ap (λ t. piece_at (34 ∷ t)) parts ∙ at_double (s ++ 34 ∷ rest) ∙ ap (λ r. r >>= λ x. found (Some (Token.Text x.0)) x.1) (quoted_again 34 34 s rest vs (inl refl) i) ∙ ap (found (Some (Token.Text vs))) len
+    ap (λ t. piece_at (34 ∷ t)) parts ∙ at_double (s ++ 34 ∷ rest) ∙ ap (λ r. r >>= λ x. found (Some (Token.StringLiteral x.0)) x.1) (quoted_again 34 34 s rest vs (inl refl) i) ∙ ap (found (Some (Token.StringLiteral vs))) len
 piece_again s rest _ (IsPiece.mark _ _ m l n) = mark_piece_again s rest m l n
 
 quote_fails : (quote : ℕ) (bs : List ℕ) (f : Fault) → IsQuote quote → quoted_at quote (quote ∷ bs) ≡ Err f → piece_at (quote ∷ bs) ≡ Err f
 quote_fails quote bs f (inl is) e =
     let read : quoted_at 34 (34 ∷ bs) ≡ Err f = rw is at e in
-    rw is (at_double bs ∙ ap (λ r. r >>= λ x. Ok (Some (Token.Text x.0), x.1)) read)
+    rw is (at_double bs ∙ ap (λ r. r >>= λ x. Ok (Some (Token.StringLiteral x.0), x.1)) read)
 quote_fails quote bs f (inr is) e =
     let read : quoted_at 39 (39 ∷ bs) ≡ Err f = rw is at e in
     rw is (at_single bs ∙ ap (λ r. r >>= λ x. single x.0 x.1) read)

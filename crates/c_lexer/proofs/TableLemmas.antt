@@ -4,11 +4,11 @@ use Rattle.std.proofs.lemmas.Bool.{false≢true, and_parts}
 use Rattle.std.proofs.lemmas.Slice.Eq.{bytes_eq-Decides}
 use Rattle.c_words.specs.Tokens.{Token}
 use Rattle.c_words.specs.declared.words.Punctuator.{Punctuator}
-use Rattle.c_words.specs.declared.words.Reserved.{Reserved}
+use Rattle.c_words.specs.declared.words.Keyword.{Keyword}
 use Rattle.c_lexer.specs.declared.fault.Fault.{Fault}
 use Rattle.c_lexer.specs.declared.fault.Fault.TheVariants as faults
-use Rattle.c_lexer.specs.Words.{reserved_words, punctuators}
-use Rattle.c_lexer.specs.Pieces.{IsRow, here, there, begins, IsLongest, HasNoMark, IsIdentifier, reserved, name}
+use Rattle.c_lexer.specs.Words.{keywords, punctuators}
+use Rattle.c_lexer.specs.Pieces.{IsRow, here, there, begins, IsLongest, HasNoMark, IsIdentifier, keyword, name}
 use Rattle.std.specs.Cmp.Lexicographic.{pointwise}
 use Rattle.c_lexer.specs.Gives.{mark_row, word_row}
 use Rattle.c_lexer.specs.Reading.{first_row, word_or_name, identifier, mark_or_fault, mark_at}
@@ -71,28 +71,28 @@ one_value {A} rows d s a b m n =
     some_is : (x y : List ℕ × A) → Some x ≡ Some y → x ≡ y
     some_is x y e = cc
 
--- ---- reserved words
+-- ---- keywords
 
-words_distinct : AreDistinct reserved_words
-unfolding reserved_words
+words_distinct : AreDistinct keywords
+unfolding keywords
 words_distinct = (refl, (refl, (refl, (refl, (refl, (refl, (refl, (refl, (refl, (refl, (refl, (refl, (refl, (refl, (refl, (refl, (refl, (refl, (refl, (refl, (refl, (refl, (refl, (refl, (refl, (refl, (refl, (refl, (refl, (refl, (refl, (refl, (refl, (refl, (refl, (refl, (refl, (refl, (refl, (refl, (refl, (refl, (refl, (refl, (refl, (refl, tt))))))))))))))))))))))))))))))))))))))))))))))
 
 pub identifier_found : (s : List ℕ) → IsIdentifier s (identifier s)
 unfolding identifier
-identifier_found s = by_row (first_row (λ x. bytes_eq x s) reserved_words) refl
+identifier_found s = by_row (first_row (λ x. bytes_eq x s) keywords) refl
   where
-    by_row : (o : Option (List ℕ × Reserved)) → first_row (λ x. bytes_eq x s) reserved_words ≡ o → IsIdentifier s (word_or_name s o)
-    by_row None e = name (λ w m. no_row (λ x. bytes_eq x s) s w reserved_words e m (bytes_eq_refl s))
+    by_row : (o : Option (List ℕ × Keyword)) → first_row (λ x. bytes_eq x s) keywords ≡ o → IsIdentifier s (word_or_name s o)
+    by_row None e = name (λ w m. no_row (λ x. bytes_eq x s) s w keywords e m (bytes_eq_refl s))
     by_row (Some row) e =
-        let p = row_found (λ x. bytes_eq x s) reserved_words row e in
+        let p = row_found (λ x. bytes_eq x s) keywords row e in
         let same : row.0 ≡ s = (bytes_eq-Decides row.0 s).0 p.1 in
-        reserved row.1 (subst (λ x. IsRow x row.1 reserved_words) same p.0)
+        keyword row.1 (subst (λ x. IsRow x row.1 keywords) same p.0)
 
 pub identifier_again : (s : List ℕ) (t : Token) → IsIdentifier s t → identifier s ≡ t
 unfolding identifier
-identifier_again s _ (reserved w m) = ap (word_or_name s) (at_row (λ r. first_row (λ x. bytes_eq x r.0) reserved_words ≡ Some r) s w reserved_words words_distinct m)
+identifier_again s _ (keyword w m) = ap (word_or_name s) (at_row (λ r. first_row (λ x. bytes_eq x r.0) keywords ≡ Some r) s w keywords words_distinct m)
 identifier_again s _ (name none) =
-    ap (word_or_name s) (no_row_again (λ x. bytes_eq x s) reserved_words (λ x w m e. none w (subst (λ y. IsRow y w reserved_words) ((bytes_eq-Decides x s).0 e) m)))
+    ap (word_or_name s) (no_row_again (λ x. bytes_eq x s) keywords (λ x w m e. none w (subst (λ y. IsRow y w keywords) ((bytes_eq-Decides x s).0 e) m)))
 
 -- ---- punctuators
 
@@ -171,16 +171,16 @@ abbrev missed : Fault → Result (Option Token × ℕ) Fault
 missed f = Err f
 
 pub mark_found : (text : List ℕ) (o : Option Token) (len : ℕ) → mark_at text ≡ Ok (o, len)
-    → (s : List ℕ) × (m : Punctuator) × (o ≡ Some (Token.Mark m)) × (len ≡ length s) × IsLongest s m text
+    → (s : List ℕ) × (m : Punctuator) × (o ≡ Some (Token.Punctuator m)) × (len ≡ length s) × IsLongest s m text
 unfolding mark_at
 mark_found text o len e = by_row (first_row (λ x. begins x text) punctuators) refl e
   where
     by_row : (r : Option (List ℕ × Punctuator)) → first_row (λ x. begins x text) punctuators ≡ r → mark_or_fault r ≡ Ok (o, len)
-        → (s : List ℕ) × (m : Punctuator) × (o ≡ Some (Token.Mark m)) × (len ≡ length s) × IsLongest s m text
+        → (s : List ℕ) × (m : Punctuator) × (o ≡ Some (Token.Punctuator m)) × (len ≡ length s) × IsLongest s m text
     by_row None f g = absurd cc
     by_row (Some row) f g =
         let p = row_found (λ x. begins x text) punctuators row f in
-        let same : (Some (Token.Mark row.1), length row.0) ≡ (o, len) = ok_is _ _ g in (
+        let same : (Some (Token.Punctuator row.1), length row.0) ≡ (o, len) = ok_is _ _ g in (
           row.0,
           row.1,
           sym (ap (λ (x : Option Token × ℕ). x.0) same),
@@ -191,11 +191,11 @@ mark_found text o len e = by_row (first_row (λ x. begins x text) punctuators) r
         ok_is : (x y : Option Token × ℕ) → found x ≡ found y → x ≡ y
         ok_is x y h = cc
 
-pub mark_again : (s text : List ℕ) (m : Punctuator) → IsLongest s m text → mark_at text ≡ Ok (Some (Token.Mark m), length s)
+pub mark_again : (s text : List ℕ) (m : Punctuator) → IsLongest s m text → mark_at text ≡ Ok (Some (Token.Punctuator m), length s)
 unfolding mark_at
 mark_again s text m w = by_row (first_row (λ x. begins x text) punctuators) refl
   where
-    by_row : (r : Option (List ℕ × Punctuator)) → first_row (λ x. begins x text) punctuators ≡ r → mark_or_fault r ≡ Ok (Some (Token.Mark m), length s)
+    by_row : (r : Option (List ℕ × Punctuator)) → first_row (λ x. begins x text) punctuators ≡ r → mark_or_fault r ≡ Ok (Some (Token.Punctuator m), length s)
     by_row None f = absurd (no_row (λ x. begins x text) s m punctuators f w.is_punctuator w.at_front)
     by_row (Some row) f =
         let p = row_found (λ x. begins x text) punctuators row f in
@@ -227,10 +227,10 @@ begins_is [] text = refl
 begins_is (x ∷ s) [] = refl
 begins_is (x ∷ s) (b ∷ text) = ap (λ t. eqb x b && t) (begins_is s text)
 
-pub at_mark : (o : Option (List ℕ × Punctuator)) (r : Option (ℕ × Punctuator)) → r ≡ mark_row o → mark_or_fault o ≡ elim r [ None ↦ Err faults.BadByte | Some x ↦ Ok (Some (Token.Mark x.1), x.0) ]
+pub at_mark : (o : Option (List ℕ × Punctuator)) (r : Option (ℕ × Punctuator)) → r ≡ mark_row o → mark_or_fault o ≡ elim r [ None ↦ Err faults.BadByte | Some x ↦ Ok (Some (Token.Punctuator x.1), x.0) ]
 at_mark None r e = rw e refl
 at_mark (Some row) r e = rw e refl
 
-pub at_word : (s : List ℕ) (o : Option (List ℕ × Reserved)) (r : Option Reserved) → r ≡ word_row o → word_or_name s o ≡ elim r [ None ↦ Token.Name s | Some w ↦ Token.Word w ]
+pub at_word : (s : List ℕ) (o : Option (List ℕ × Keyword)) (r : Option Keyword) → r ≡ word_row o → word_or_name s o ≡ elim r [ None ↦ Token.Name s | Some w ↦ Token.Keyword w ]
 at_word s None r e = rw e refl
 at_word s (Some row) r e = rw e refl

@@ -1,5 +1,6 @@
 -- The bytes of a text of C, by classes.
-use Rattle.std.specs.Prelude.{◌≡◌, ℕ, suc, ◌-◌, Bool, true, false, ◌&&◌, ◌||◌, if◌then◌else◌, ◌==◌, nat_lt, nat_le, List, [], ◌∷◌}
+use Rattle.std.specs.Prelude.{◌≡◌, ℕ, suc, ◌-◌, Bool, true, false, ◌&&◌, ◌||◌}
+use Rattle.std.specs.Prelude.{if◌then◌else◌, ◌==◌, nat_lt, nat_le, List, [], ◌∷◌}
 
 -- horizontal tab, line feed, vertical tab, form feed, carriage return and space (C11 6.4)
 unfoldable pub is_blank : ℕ → Bool

@@ -1,7 +1,7 @@
 -- How what the code returns is read by functions of the bytes.
 use Rattle.std.specs.Prelude.{◌≡◌, ℕ, List, length, Option, Some, None, option_map, Result, Ok, Err}
 use Rattle.c_words.specs.declared.words.Punctuator.{Punctuator}
-use Rattle.c_words.specs.declared.words.Reserved.{Reserved}
+use Rattle.c_words.specs.declared.words.Keyword.{Keyword}
 use Rattle.c_words.specs.Tokens.{Token}
 use Rattle.c_lexer.specs.declared.fault.Fault.{Fault}
 use Rattle.c_lexer.specs.declared.fault.PieceError.{PieceError}
@@ -37,13 +37,13 @@ dropped (Ok len) = Ok (None, len)
 dropped (Err f) = Err f
 
 abbrev pub marked : Result (Punctuator × ℕ) Fault → Result Found Fault
-marked (Ok mark) = Ok (Some (Token.Mark mark.0), mark.1)
+marked (Ok mark) = Ok (Some (Token.Punctuator mark.0), mark.1)
 marked (Err f) = Err f
 
 abbrev pub mark_row : Option (List ℕ × Punctuator) → Option (ℕ × Punctuator)
 mark_row None = None
 mark_row (Some row) = Some (length row.0, row.1)
 
-abbrev pub word_row : Option (List ℕ × Reserved) → Option Reserved
+abbrev pub word_row : Option (List ℕ × Keyword) → Option Keyword
 word_row None = None
 word_row (Some row) = Some row.1

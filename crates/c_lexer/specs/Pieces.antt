@@ -1,14 +1,15 @@
 -- What the text is made of: tokens, and the blanks, comments and directives between them (C11 6.4).
 -- The bytes that are written as numbers: a line feed is 10, `"` 34, `#` 35, `'` 39, `*` 42, `/` 47, a backslash 92, `x` 120.
-use Rattle.std.specs.Prelude.{◌≡◌, ◌≢◌, ◌⊎◌, ℕ, not, ◌<◌, ◌≤◌, Bool, true, false, ◌||◌, ◌&&◌, ◌==◌, List, [], ◌∷◌, ◌++◌, length, Option, Some, None, codes}
+use Rattle.std.specs.Prelude.{◌≡◌, ◌≢◌, ◌⊎◌, ℕ, not, ◌<◌, ◌≤◌, Bool, true, false, ◌||◌}
+use Rattle.std.specs.Prelude.{◌&&◌, ◌==◌, List, [], ◌∷◌, ◌++◌, length, Option, Some, None, codes}
 use Rattle.c_words.specs.declared.words.Punctuator.{Punctuator}
-use Rattle.c_words.specs.declared.words.Reserved.{Reserved}
+use Rattle.c_words.specs.declared.words.Keyword.{Keyword}
 use Rattle.c_words.specs.Tokens.{Token}
 use Rattle.c_lexer.specs.declared.fault.Fault.{Fault}
 use Rattle.c_lexer.specs.declared.fault.Fault.TheVariants as faults
 use Rattle.c_lexer.specs.Bytes.{is_blank, is_gap, is_letter, is_digit, is_word, continues_number, is_digit_of, IsRun, IsRunOf}
 use Rattle.c_lexer.specs.Numbers.{value_of, AreDigits, IsNumber}
-use Rattle.c_lexer.specs.Words.{reserved_words, punctuators}
+use Rattle.c_lexer.specs.Words.{keywords, punctuators}
 
 -- ---- tables of spellings
 
@@ -34,10 +35,10 @@ pub record IsLongest (spelling : List ℕ) (mark : Punctuator) (text : List ℕ)
 abbrev pub HasNoMark : List ℕ → Type 0
 HasNoMark text = (spelling : List ℕ) (mark : Punctuator) → IsRow spelling mark punctuators → begins spelling text ≡ true → ⊥
 
--- An identifier's spelling is that of a reserved word, or a name (C11 6.4.1, 6.4.2).
+-- An identifier's spelling is that of a keyword, or a name (C11 6.4.1, 6.4.2).
 pub data IsIdentifier (spelling : List ℕ) : Token → Type 0 where
-  reserved : (word : Reserved) → IsRow spelling word reserved_words → IsIdentifier spelling (Token.Word word)
-  name : ((word : Reserved) → IsRow spelling word reserved_words → ⊥) → IsIdentifier spelling (Token.Name spelling)
+  keyword : (word : Keyword) → IsRow spelling word keywords → IsIdentifier spelling (Token.Keyword word)
+  name : ((word : Keyword) → IsRow spelling word keywords → ⊥) → IsIdentifier spelling (Token.Name spelling)
 
 -- ---- items one after another
 
@@ -153,10 +154,10 @@ pub data IsPiece : List ℕ → List ℕ → Option Token → Type 0 where
       → IsPiece (39 ∷ (s ++ 39 ∷ [])) rest (Some (Token.Character value))
   -- elements between double quotes
   text : (s rest values : List ℕ) → Items (IsElement 34) (34 ∷ rest) s values
-      → IsPiece (34 ∷ (s ++ 34 ∷ [])) rest (Some (Token.Text values))
+      → IsPiece (34 ∷ (s ++ 34 ∷ [])) rest (Some (Token.StringLiteral values))
   -- the longest punctuator, where no comment begins
   mark : (s rest : List ℕ) (m : Punctuator) → IsLongest s m (s ++ rest) → BeginsNoComment (s ++ rest)
-      → IsPiece s rest (Some (Token.Mark m))
+      → IsPiece s rest (Some (Token.Punctuator m))
 
 -- why no piece is in front of the text
 pub data IsFaulty : List ℕ → Fault → Type 0 where

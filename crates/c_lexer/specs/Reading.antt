@@ -1,14 +1,15 @@
 -- What the front of a text reads as, by functions of the bytes.
-use Rattle.std.specs.Prelude.{ℕ, zero, suc, ◌+◌, ◌-◌, ◌*◌, ◌^◌, Bool, not, ◌&&◌, ◌||◌, if◌then◌else◌, ◌==◌, nat_lt, nat_le, List, [], ◌∷◌, length, take, drop, slice_index, Option, Some, None, Result, Ok, Err, codes, bytes_eq}
+use Rattle.std.specs.Prelude.{ℕ, zero, suc, ◌+◌, ◌-◌, ◌*◌, ◌^◌, Bool, not, ◌&&◌, ◌||◌, if◌then◌else◌, ◌==◌, nat_lt}
+use Rattle.std.specs.Prelude.{nat_le, List, [], ◌∷◌, length, take, drop, slice_index, Option, Some, None, Result, Ok, Err, codes, bytes_eq}
 use Rattle.c_words.specs.declared.words.Punctuator.{Punctuator}
-use Rattle.c_words.specs.declared.words.Reserved.{Reserved}
+use Rattle.c_words.specs.declared.words.Keyword.{Keyword}
 use Rattle.c_words.specs.Tokens.{Token}
 use Rattle.c_lexer.specs.declared.bytes.Class.{Class}
 use Rattle.c_lexer.specs.declared.bytes.Class.TheVariants as class
 use Rattle.c_lexer.specs.declared.fault.Fault.{Fault}
 use Rattle.c_lexer.specs.declared.fault.Fault.TheVariants as faults
 use Rattle.c_lexer.specs.Bytes.{is_blank, is_gap, is_letter, is_digit, is_word, continues_number, is_unsigned_suffix, is_hex_mark, digit_value, is_digit_of}
-use Rattle.c_lexer.specs.Words.{reserved_words, punctuators}
+use Rattle.c_lexer.specs.Words.{keywords, punctuators}
 use Rattle.c_lexer.specs.Pieces.{begins}
 
 infixl 10 ◌>>=◌
@@ -41,12 +42,12 @@ abbrev pub first_row : {A : Type 0} → (List ℕ → Bool) → List (List ℕ �
 first_row test [] = None
 first_row test (row ∷ rows) = if test row.0 then Some row else first_row test rows
 
-abbrev pub word_or_name : List ℕ → Option (List ℕ × Reserved) → Token
+abbrev pub word_or_name : List ℕ → Option (List ℕ × Keyword) → Token
 word_or_name spelling None = Token.Name spelling
-word_or_name spelling (Some row) = Token.Word row.1
+word_or_name spelling (Some row) = Token.Keyword row.1
 
 unfoldable pub identifier : List ℕ → Token
-identifier spelling = word_or_name spelling (first_row (λ s. bytes_eq s spelling) reserved_words)
+identifier spelling = word_or_name spelling (first_row (λ s. bytes_eq s spelling) keywords)
 
 -- what stands at a place: a token or nothing, and how many bytes it has
 abbrev pub Found : Type 0
@@ -54,7 +55,7 @@ Found = Option Token × ℕ
 
 abbrev pub mark_or_fault : Option (List ℕ × Punctuator) → Result Found Fault
 mark_or_fault None = Err faults.BadByte
-mark_or_fault (Some row) = Ok (Some (Token.Mark row.1), length row.0)
+mark_or_fault (Some row) = Ok (Some (Token.Punctuator row.1), length row.0)
 
 unfoldable pub mark_at : List ℕ → Result Found Fault
 mark_at text = mark_or_fault (first_row (λ s. begins s text) punctuators)
@@ -180,7 +181,7 @@ single (value ∷ []) len = Ok (Some (Token.Character value), len)
 single (value ∷ other ∷ values) len = Err faults.BadEscape
 
 abbrev pub string_at : List ℕ → Result Found Fault
-string_at text = quoted_at 34 text >>= λ x. Ok (Some (Token.Text x.0), x.1)
+string_at text = quoted_at 34 text >>= λ x. Ok (Some (Token.StringLiteral x.0), x.1)
 
 abbrev pub character_at : List ℕ → Result Found Fault
 character_at text = quoted_at 39 text >>= λ x. single x.0 x.1

@@ -1,5 +1,6 @@
 -- The tokens of a text, or its refusal.
-use Rattle.std.specs.Prelude.{◌≡◌, ℕ, suc, ◌+◌, ◌<◌, ◌≤◌, List, [], ◌∷◌, ◌++◌, length, take, drop, Option, Some, None, Result, Ok, Err}
+use Rattle.std.specs.Prelude.{◌≡◌, ℕ, suc, ◌+◌, ◌<◌, ◌≤◌, List, [], ◌∷◌}
+use Rattle.std.specs.Prelude.{◌++◌, length, take, drop, Option, Some, None, Result, Ok, Err}
 use Rattle.c_words.specs.Tokens.{Token, Placed}
 use Rattle.c_lexer.specs.declared.fault.Fault.{Fault}
 use Rattle.c_lexer.specs.declared.fault.LexError.{LexError}
@@ -58,14 +59,16 @@ pub data Lexes : List ℕ → Result (List Lexeme) LexError → Type 0 where
 
 -- a text has one reading
 abbrev pub HasOneReading : Type 0
-HasOneReading = (text : List ℕ) → (reading : Result (List Lexeme) LexError) × Lexes text reading × ((other : Result (List Lexeme) LexError) → Lexes text other → other ≡ reading)
+HasOneReading = (text : List ℕ) → (reading : Result (List Lexeme) LexError) × Lexes text reading
+    × ((other : Result (List Lexeme) LexError) → Lexes text other → other ≡ reading)
 
 -- Each token begins at or behind the place, is the piece that is spelled there, and has the line of its first byte; and
 -- the tokens after it begin behind it.
 abbrev pub AreSlices : List ℕ → ℕ → List Lexeme → Type 0
 AreSlices text place [] = Unit {0}
 AreSlices text place (t ∷ ts) =
-    (place ≤ t.start) × IsPiece (take t.len (drop t.start text)) (drop (t.start + t.len) text) (Some t.token) × (t.line ≡ 1 + line_feeds (take t.start text)) × AreSlices text (t.start + t.len) ts
+    (place ≤ t.start) × IsPiece (take t.len (drop t.start text)) (drop (t.start + t.len) text) (Some t.token)
+    × (t.line ≡ 1 + line_feeds (take t.start text)) × AreSlices text (t.start + t.len) ts
 
 -- each token of a text is a slice of it
 abbrev pub HasSlices : Type 0

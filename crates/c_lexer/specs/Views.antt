@@ -13,9 +13,9 @@ abbrev pub token_of : TokenKind → Token
 token_of (kinds.Name bytes) = Token.Name bytes
 token_of (kinds.Number value is_unsigned) = Token.Number value is_unsigned
 token_of (kinds.Character value) = Token.Character value
-token_of (kinds.Text bytes) = Token.Text bytes
-token_of (kinds.Word word) = Token.Word word
-token_of (kinds.Mark mark) = Token.Mark mark
+token_of (kinds.StringLiteral bytes) = Token.StringLiteral bytes
+token_of (kinds.Keyword word) = Token.Keyword word
+token_of (kinds.Punctuator mark) = Token.Punctuator mark
 
 abbrev pub lexeme_of : rust.Token → Lexeme
 lexeme_of t = record { token = token_of t.kind; start = t.start; len = t.len; line = t.line }

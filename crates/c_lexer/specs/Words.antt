@@ -1,13 +1,13 @@
--- The spellings of the reserved words and of the punctuators.
+-- The spellings of the keywords and of the punctuators.
 use Rattle.std.specs.Prelude.{ℕ, List, [], ◌∷◌, codes}
-use Rattle.c_words.specs.declared.words.Reserved.{Reserved}
-use Rattle.c_words.specs.declared.words.Reserved.TheVariants as words
+use Rattle.c_words.specs.declared.words.Keyword.{Keyword}
+use Rattle.c_words.specs.declared.words.Keyword.TheVariants as words
 use Rattle.c_words.specs.declared.words.Punctuator.{Punctuator}
 use Rattle.c_words.specs.declared.words.Punctuator.TheVariants as marks
 
 -- the keywords (C11 6.4.1), and `NULL` and `EOF`
-unfoldable pub reserved_words : List (List ℕ × Reserved)
-reserved_words =
+unfoldable pub keywords : List (List ℕ × Keyword)
+keywords =
     (codes "auto", words.Auto) ∷
     (codes "break", words.Break) ∷
     (codes "case", words.Case) ∷

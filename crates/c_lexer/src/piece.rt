@@ -54,7 +54,7 @@ fn string_at(alloc: Global, text: &[u8]) -> Result<Piece, PieceError>
     ensures within { IfOk result (λ p. p.len ≤ length text.now) }
 {
     let (bytes, len) = quoted_at(alloc, b'"', text)?;
-    Ok(Piece::of(TokenKind::Text(bytes), len))
+    Ok(Piece::of(TokenKind::StringLiteral(bytes), len))
 }
 
 fn character_at(alloc: Global, text: &[u8]) -> Result<Piece, PieceError>
@@ -88,7 +88,7 @@ fn punctuator_at(text: &[u8]) -> Result<Piece, PieceError>
     ensures within { IfOk result (λ p. p.len ≤ length text.now) }
 {
     let (mark, len) = mark_at(text)?;
-    Ok(Piece::of(TokenKind::Mark(mark), len))
+    Ok(Piece::of(TokenKind::Punctuator(mark), len))
 }
 
 fn identifier_at(alloc: Global, text: &[u8]) -> Result<Piece, PieceError>

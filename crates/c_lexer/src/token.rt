@@ -1,23 +1,23 @@
 //! Tokens, each with its place in the text.
 use bb_words::list::List;
 use c_words::place::{At, Bytes, Name};
-use c_words::words::{Punctuator, Reserved};
+use c_words::words::{Keyword, Punctuator};
 
 /// A token with its value (C11 6.4).
 #[derive(Debug, Drop)]
 pub enum TokenKind {
-    /// An identifier that is no reserved word.
+    /// An identifier that is no keyword.
     Name(Name),
     /// An integer constant: its value, and whether its type is unsigned.
     Number { value: u32, unsigned: bool },
     /// A character constant's value.
     Character(u8),
     /// The bytes of a string literal, without the final zero.
-    Text(Bytes),
-    /// A reserved word.
-    Word(Reserved),
+    StringLiteral(Bytes),
+    /// A keyword.
+    Keyword(Keyword),
     /// A punctuator.
-    Mark(Punctuator),
+    Punctuator(Punctuator),
 }
 
 /// A token, where its first byte stands in the text, how many bytes it has, and the line of its first byte, from 1.

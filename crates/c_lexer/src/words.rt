@@ -1,4 +1,4 @@
-//! The spellings of the reserved words and of the punctuators.
+//! The spellings of the keywords and of the punctuators.
 ghost use Rattle.std.specs.Prelude.{◌≡◌, ◌≤◌, ◌<◌, length, map, bytes_eq, true, IfSome, IfOk};
 ghost use Rattle.c_lexer.specs.Pieces as pieces;
 ghost use Rattle.c_lexer.specs.Reading as reading;
@@ -8,57 +8,57 @@ ghost use Rattle.c_lexer.specs.Views.{token_of};
 use crate::fault::Fault;
 use crate::token::TokenKind;
 use bb_words::list::List;
-use c_words::words::{Punctuator, Reserved};
+use c_words::words::{Keyword, Punctuator};
 use std::alloc::{AllocError, Global};
 
-/// The reserved words: the keywords (C11 6.4.1), and `NULL` and `EOF`.
-pub const RESERVED_WORDS: [(&[u8], Reserved); 46] = [
-    (b"auto", Reserved::Auto),
-    (b"break", Reserved::Break),
-    (b"case", Reserved::Case),
-    (b"char", Reserved::Char),
-    (b"const", Reserved::Const),
-    (b"continue", Reserved::Continue),
-    (b"default", Reserved::Default),
-    (b"do", Reserved::Do),
-    (b"double", Reserved::Double),
-    (b"else", Reserved::Else),
-    (b"enum", Reserved::Enum),
-    (b"extern", Reserved::Extern),
-    (b"float", Reserved::Float),
-    (b"for", Reserved::For),
-    (b"goto", Reserved::Goto),
-    (b"if", Reserved::If),
-    (b"inline", Reserved::Inline),
-    (b"int", Reserved::Int),
-    (b"long", Reserved::Long),
-    (b"register", Reserved::Register),
-    (b"restrict", Reserved::Restrict),
-    (b"return", Reserved::Return),
-    (b"short", Reserved::Short),
-    (b"signed", Reserved::Signed),
-    (b"sizeof", Reserved::Sizeof),
-    (b"static", Reserved::Static),
-    (b"struct", Reserved::Struct),
-    (b"switch", Reserved::Switch),
-    (b"typedef", Reserved::Typedef),
-    (b"union", Reserved::Union),
-    (b"unsigned", Reserved::Unsigned),
-    (b"void", Reserved::Void),
-    (b"volatile", Reserved::Volatile),
-    (b"while", Reserved::While),
-    (b"_Alignas", Reserved::Alignas),
-    (b"_Alignof", Reserved::Alignof),
-    (b"_Atomic", Reserved::Atomic),
-    (b"_Bool", Reserved::Bool),
-    (b"_Complex", Reserved::Complex),
-    (b"_Generic", Reserved::Generic),
-    (b"_Imaginary", Reserved::Imaginary),
-    (b"_Noreturn", Reserved::Noreturn),
-    (b"_Static_assert", Reserved::StaticAssert),
-    (b"_Thread_local", Reserved::ThreadLocal),
-    (b"NULL", Reserved::Null),
-    (b"EOF", Reserved::Eof),
+/// The keywords of C11 (6.4.1), and `NULL` and `EOF`.
+pub const KEYWORDS: [(&[u8], Keyword); 46] = [
+    (b"auto", Keyword::Auto),
+    (b"break", Keyword::Break),
+    (b"case", Keyword::Case),
+    (b"char", Keyword::Char),
+    (b"const", Keyword::Const),
+    (b"continue", Keyword::Continue),
+    (b"default", Keyword::Default),
+    (b"do", Keyword::Do),
+    (b"double", Keyword::Double),
+    (b"else", Keyword::Else),
+    (b"enum", Keyword::Enum),
+    (b"extern", Keyword::Extern),
+    (b"float", Keyword::Float),
+    (b"for", Keyword::For),
+    (b"goto", Keyword::Goto),
+    (b"if", Keyword::If),
+    (b"inline", Keyword::Inline),
+    (b"int", Keyword::Int),
+    (b"long", Keyword::Long),
+    (b"register", Keyword::Register),
+    (b"restrict", Keyword::Restrict),
+    (b"return", Keyword::Return),
+    (b"short", Keyword::Short),
+    (b"signed", Keyword::Signed),
+    (b"sizeof", Keyword::Sizeof),
+    (b"static", Keyword::Static),
+    (b"struct", Keyword::Struct),
+    (b"switch", Keyword::Switch),
+    (b"typedef", Keyword::Typedef),
+    (b"union", Keyword::Union),
+    (b"unsigned", Keyword::Unsigned),
+    (b"void", Keyword::Void),
+    (b"volatile", Keyword::Volatile),
+    (b"while", Keyword::While),
+    (b"_Alignas", Keyword::Alignas),
+    (b"_Alignof", Keyword::Alignof),
+    (b"_Atomic", Keyword::Atomic),
+    (b"_Bool", Keyword::Bool),
+    (b"_Complex", Keyword::Complex),
+    (b"_Generic", Keyword::Generic),
+    (b"_Imaginary", Keyword::Imaginary),
+    (b"_Noreturn", Keyword::Noreturn),
+    (b"_Static_assert", Keyword::StaticAssert),
+    (b"_Thread_local", Keyword::ThreadLocal),
+    (b"NULL", Keyword::Null),
+    (b"EOF", Keyword::Eof),
 ];
 
 /// The punctuators (C11 6.4.6) but for `...`, `#` and `##`, the longest first.
@@ -133,7 +133,7 @@ fn first_mark(mut table: &[(&[u8], Punctuator)], text: &[u8]) -> Option<(usize, 
 }
 
 // The first row with this spelling.
-fn first_word(mut table: &[(&[u8], Reserved)], spelling: &[u8]) -> Option<Reserved>
+fn first_word(mut table: &[(&[u8], Keyword)], spelling: &[u8]) -> Option<Keyword>
     ensures { result ≡ word_row (reading.first_row (λ s. bytes_eq s spelling.now) (map (λ row. (row.0.now, row.1)) table.entry.now)) }
 {
     while let [row, rest @ ..] = table {
@@ -156,12 +156,12 @@ pub fn mark_at(text: &[u8]) -> Result<(Punctuator, usize), Fault>
     }
 }
 
-/// The token of an identifier's spelling: a reserved word, or a name.
+/// The token of an identifier's spelling: a keyword, or a name.
 pub fn identifier(alloc: Global, spelling: &[u8]) -> Result<TokenKind, AllocError>
     ensures { IfOk result (λ kind. token_of kind ≡ reading.identifier spelling.now) }
 {
-    match first_word(&RESERVED_WORDS, spelling) {
-        Some(word) => Ok(TokenKind::Word(word)),
+    match first_word(&KEYWORDS, spelling) {
+        Some(word) => Ok(TokenKind::Keyword(word)),
         None => Ok(TokenKind::Name(List::from_vec(Vec::from_slice(alloc, spelling)?))),
     }
 }

@@ -5,22 +5,22 @@ use Rattle.c_words.specs.declared.place.At.{At}
 use Rattle.c_lexer.specs.declared.token.Token.{Token as Rattle_Token}
 use Rattle.c_lexer.specs.Text.{Lexeme, placed_from, placed}
 use Rattle.c_lexer.specs.Views.{lexemes}
-use Rattle.c_tree.specs.declared.syntax.units.Unit.{Unit as Rattle_Unit}
-use Rattle.c_tree.specs.Syntax.{UnitTree}
-use Rattle.c_tree.specs.SyntaxViews.{unit_tree}
-use Rattle.c_tree.specs.GrammarLimits.{within_limits}
-use Rattle.c_tree.specs.Grammar.{Derives}
-use Rattle.c_tree.specs.GrammarRefusals.{Refusal, IsRefused, line_of}
-use Rattle.c_parser.specs.Programs.{Sort, Rule, Outcome}
-use Rattle.c_parser.specs.Bodies.{body}
-use Rattle.c_parser.specs.Runs.{Runs}
-use Rattle.c_parser.specs.Laws.{Numbered}
-use Rattle.c_parser.specs.Reads.{Reads, place_of}
+use Rattle.syntax_tree.specs.declared.syntax.units.Unit.{Unit as Rattle_Unit}
+use Rattle.syntax_tree.specs.Syntax.{UnitTree}
+use Rattle.syntax_tree.specs.SyntaxViews.{unit_tree}
+use Rattle.syntax_tree.specs.GrammarLimits.{within_limits}
+use Rattle.syntax_tree.specs.Grammar.{Derives}
+use Rattle.syntax_tree.specs.GrammarRefusals.{Refusal, IsRefused, line_of}
+use Rattle.c_parser_rules.specs.Programs.{Sort, Rule, Outcome}
+use Rattle.c_parser_rules.specs.Bodies.{body}
+use Rattle.c_parser_rules.specs.Runs.{Runs}
+use Rattle.c_parser_rules.specs.Laws.{Numbered}
+use Rattle.c_parser_expressions.specs.Reads.{Reads, place_of}
 use Rattle.c_parser.specs.Parse.{stop_place}
-use Rattle.c_parser.proofs.RunsLaws.{one_outcome}
-use Rattle.c_parser.proofs.CompleteStatements.{complete}
-use Rattle.c_parser.proofs.Stability.{suffix}
-use Rattle.c_parser.proofs.Laws.{sound, refused}
+use Rattle.c_parser_rules.proofs.RunsLaws.{one_outcome}
+use Rattle.c_parser_rules.proofs.CompleteStatements.{complete}
+use Rattle.c_parser_rules.proofs.Stability.{suffix}
+use Rattle.c_parser_rules.proofs.Laws.{sound, refused}
 
 numbered_from : (n : ℕ) (ls : List Lexeme) → Numbered n (placed_from n ls)
 numbered_from n [] = tt

@@ -2,12 +2,12 @@
 use Rattle.std.specs.Prelude.{◌≡◌, List, [], ◌∷◌, length, Result, Ok, Err}
 use Rattle.c_words.specs.declared.place.At.{At}
 use Rattle.c_words.specs.Tokens.{Placed}
-use Rattle.c_tree.specs.declared.syntax.units.Unit.{Unit as Rattle_Unit}
-use Rattle.c_tree.specs.Syntax.{UnitTree}
-use Rattle.c_tree.specs.SyntaxViews.{unit_tree}
-use Rattle.c_tree.specs.GrammarLimits.{within_limits}
-use Rattle.c_tree.specs.Grammar.{Derives}
-use Rattle.c_tree.specs.GrammarRefusals.{Refusal, IsRefused, line_of}
+use Rattle.syntax_tree.specs.declared.syntax.units.Unit.{Unit as Rattle_Unit}
+use Rattle.syntax_tree.specs.Syntax.{UnitTree}
+use Rattle.syntax_tree.specs.SyntaxViews.{unit_tree}
+use Rattle.syntax_tree.specs.GrammarLimits.{within_limits}
+use Rattle.syntax_tree.specs.Grammar.{Derives}
+use Rattle.syntax_tree.specs.GrammarRefusals.{Refusal, IsRefused, line_of}
 use Rattle.c_parser.specs.declared.parser.ParseError.{ParseError}
 use Rattle.c_parser.specs.declared.parser.ParseError.TheVariants as errors
 

@@ -1,21 +1,22 @@
 //! The arrays of declarators.
 ghost use Rattle.std.specs.Prelude.{◌≤◌, map, option_map};
-ghost use Rattle.c_tree.specs.SyntaxViews.{expression_tree, array_tree};
-ghost use Rattle.c_parser.specs.Programs.{Sort, Rule};
-ghost use Rattle.c_parser.specs.Tests.{is_open_bracket, is_close_bracket};
-ghost use Rattle.c_parser.specs.Bodies.{body};
-ghost use Rattle.c_parser.specs.Reads.{Reads};
+ghost use Rattle.syntax_tree.specs.SyntaxViews.{expression_tree, array_tree};
+ghost use Rattle.c_parser_rules.specs.Programs.{Sort, Rule};
+ghost use Rattle.c_parser_rules.specs.Tests.{is_open_bracket, is_close_bracket};
+ghost use Rattle.c_parser_rules.specs.Bodies.{body};
+ghost use Rattle.c_parser_expressions.specs.Reads.{Reads};
 
-use crate::cursor::{Cursor, LEVELS, Stop};
-use crate::expression::conditional;
-use c_tree::syntax::{Array, Expression};
+use c_parser_expressions::cursor::{Cursor, LEVELS, Stop};
+use c_parser_expressions::expression::conditional;
 use c_words::words::Punctuator;
 use std::alloc::Global;
+use syntax_tree::syntax::{Array, Expression};
 
 // The size in the brackets of an array, where there is one.
 fn size(alloc: Global, cursor: &mut Cursor<'_>, depth: u32) -> Result<Option<Expression>, Stop>
     requires { depth ≤ 200 }
-    ensures { Reads (Sort.optional Sort.expression) (body (Rule.optionally is_close_bracket (Rule.conditional depth))) (option_map expression_tree) cursor.old result cursor.new }
+    ensures { Reads (Sort.optional Sort.expression) (body (Rule.optionally is_close_bracket (Rule.conditional depth)))
+        (option_map expression_tree) cursor.old result cursor.new }
 {
     if cursor.sees(Punctuator::CloseBracket) {
         return Ok(None);

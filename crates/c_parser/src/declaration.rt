@@ -1,17 +1,17 @@
 //! Declarations.
 ghost use Rattle.std.specs.Prelude.{◌≤◌, map};
-ghost use Rattle.c_tree.specs.SyntaxViews.{declarator_tree, init_declarator_tree, declaration_tree, member_declaration_tree};
-ghost use Rattle.c_parser.specs.Programs.{Sort, Rule};
-ghost use Rattle.c_parser.specs.Bodies.{body};
-ghost use Rattle.c_parser.specs.Reads.{Reads, GoesOn};
+ghost use Rattle.syntax_tree.specs.SyntaxViews.{declarator_tree, init_declarator_tree, declaration_tree, member_declaration_tree};
+ghost use Rattle.c_parser_rules.specs.Programs.{Sort, Rule};
+ghost use Rattle.c_parser_rules.specs.Bodies.{body};
+ghost use Rattle.c_parser_expressions.specs.Reads.{Reads, GoesOn};
 
-use crate::cursor::{Cursor, Stop};
 use crate::declarator::declarator;
 use crate::initializer::initializer;
-use crate::specifier::specifier;
-use c_tree::syntax::{Declaration, Declarator, InitDeclarator, MemberDeclaration};
+use c_parser_expressions::cursor::{Cursor, Stop};
+use c_parser_expressions::specifier::specifier;
 use c_words::words::Punctuator;
 use std::alloc::Global;
+use syntax_tree::syntax::{Declaration, Declarator, InitDeclarator, MemberDeclaration};
 
 /// What follows a declarator: its initializer, or nothing.
 pub fn init_rest(
@@ -60,7 +60,8 @@ pub fn init_declarators(
     mut declarators: Vec<InitDeclarator>,
 ) -> Result<Vec<InitDeclarator>, Stop>
     requires { depth ≤ 200 }
-    ensures { GoesOn (Sort.many Sort.init_declarator) (body (Rule.commas (Rule.init_declarator depth))) (map init_declarator_tree) (λ v. v.items) declarators.items cursor.old result cursor.new }
+    ensures { GoesOn (Sort.many Sort.init_declarator) (body (Rule.commas (Rule.init_declarator depth))) (map init_declarator_tree)
+        (λ v. v.items) declarators.items cursor.old result cursor.new }
 {
     'declarators: loop {
         let declarator = init_declarator(alloc, cursor, depth)?;

@@ -2,21 +2,21 @@
 ghost use Rattle.std.specs.Prelude.{◌≡◌, ◌≤◌, map, Some};
 ghost use Rattle.c_words.specs.Tokens as tokens;
 ghost use Rattle.c_words.specs.declared.words.Punctuator.TheVariants as marks;
-ghost use Rattle.c_tree.specs.SyntaxViews.{suffix_tree, declarator_tree};
-ghost use Rattle.c_parser.specs.Programs.{Sort, Rule};
-ghost use Rattle.c_parser.specs.Tests.{first, begins_suffix};
-ghost use Rattle.c_parser.specs.Bodies.{body};
-ghost use Rattle.c_parser.specs.Bodies as bodies;
-ghost use Rattle.c_parser.specs.Reads.{Reads};
+ghost use Rattle.syntax_tree.specs.SyntaxViews.{suffix_tree, declarator_tree};
+ghost use Rattle.c_parser_rules.specs.Programs.{Sort, Rule};
+ghost use Rattle.c_parser_rules.specs.Tests.{first, begins_suffix};
+ghost use Rattle.c_parser_rules.specs.Bodies.{body};
+ghost use Rattle.c_parser_rules.specs.Bodies as bodies;
+ghost use Rattle.c_parser_expressions.specs.Reads.{Reads};
 
 use crate::array::array;
-use crate::cursor::{Cursor, LEVELS, Stop};
 use crate::parameter::optional_parameters;
-use crate::specifier::stars;
 use crate::trees;
-use c_tree::syntax::{Declarator, Suffix};
+use c_parser_expressions::cursor::{Cursor, LEVELS, Stop};
+use c_parser_expressions::specifier::stars;
 use c_words::words::Punctuator;
 use std::alloc::Global;
+use syntax_tree::syntax::{Declarator, Suffix};
 
 // Whether an array or parameters follow.
 fn sees_suffix(cursor: &Cursor<'_>) -> bool
@@ -46,7 +46,8 @@ fn suffix(alloc: Global, cursor: &mut Cursor<'_>, depth: u32) -> Result<Suffix, 
 // All that follows a declared name.
 fn suffixes(alloc: Global, cursor: &mut Cursor<'_>, depth: u32) -> Result<Vec<Suffix>, Stop>
     requires { depth ≤ 200 }
-    ensures { Reads (Sort.many Sort.suffix) (body (Rule.repeat begins_suffix (Rule.suffix depth))) (λ v. map suffix_tree v.items) cursor.old result cursor.new }
+    ensures { Reads (Sort.many Sort.suffix) (body (Rule.repeat begins_suffix (Rule.suffix depth)))
+        (λ v. map suffix_tree v.items) cursor.old result cursor.new }
 {
     let mut suffixes = Vec::new(alloc);
     'suffixes: while sees_suffix(cursor) {
@@ -84,7 +85,7 @@ fn nested(
     stars: u32,
 ) -> Result<Declarator, Stop>
     requires { level ≤ 200 }
-    ensures { Reads Sort.declarator (bodies.declarator_by level stars (Some (tokens.Token.Mark marks.OpenParen))) declarator_tree cursor.old result cursor.new }
+    ensures { Reads Sort.declarator (bodies.declarator_by level stars (Some (tokens.Token.Punctuator marks.OpenParen))) declarator_tree cursor.old result cursor.new }
 {
     cursor.take_mark(Punctuator::OpenParen, level < LEVELS)?;
     let inner = declarator(alloc, cursor, level + 1)?;

@@ -1,16 +1,16 @@
 //! Initializers.
 ghost use Rattle.std.specs.Prelude.{◌≤◌};
-ghost use Rattle.c_tree.specs.SyntaxViews.{initializer_tree, initializer_trees};
-ghost use Rattle.c_parser.specs.Programs.{Sort, Rule};
-ghost use Rattle.c_parser.specs.Bodies.{body};
-ghost use Rattle.c_parser.specs.Reads.{Reads};
+ghost use Rattle.syntax_tree.specs.SyntaxViews.{initializer_tree, initializer_trees};
+ghost use Rattle.c_parser_rules.specs.Programs.{Sort, Rule};
+ghost use Rattle.c_parser_rules.specs.Bodies.{body};
+ghost use Rattle.c_parser_expressions.specs.Reads.{Reads};
 
-use crate::cursor::{Cursor, LEVELS, Stop};
-use crate::expression::assignment;
 use crate::trees;
-use c_tree::syntax::Initializer;
+use c_parser_expressions::cursor::{Cursor, LEVELS, Stop};
+use c_parser_expressions::expression::assignment;
 use c_words::words::Punctuator;
 use std::alloc::Global;
+use syntax_tree::syntax::Initializer;
 
 /// An initializer (C11 6.7.9).
 #[cycle(initializer)]

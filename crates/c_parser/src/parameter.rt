@@ -2,21 +2,21 @@
 ghost use Rattle.std.specs.Prelude.{◌≡◌, ◌≤◌, map, option_map, Some};
 ghost use Rattle.c_words.specs.Tokens as tokens;
 ghost use Rattle.c_words.specs.declared.words.Punctuator.TheVariants as marks;
-ghost use Rattle.c_tree.specs.SyntaxViews.{parameter_declarator_tree, parameter_tree, parameters_tree};
-ghost use Rattle.c_parser.specs.Programs.{Sort, Rule};
-ghost use Rattle.c_parser.specs.Tests.{is_close_paren};
-ghost use Rattle.c_parser.specs.Bodies.{body};
-ghost use Rattle.c_parser.specs.Bodies as bodies;
-ghost use Rattle.c_parser.specs.Reads.{Reads};
+ghost use Rattle.syntax_tree.specs.SyntaxViews.{parameter_declarator_tree, parameter_tree, parameters_tree};
+ghost use Rattle.c_parser_rules.specs.Programs.{Sort, Rule};
+ghost use Rattle.c_parser_rules.specs.Tests.{is_close_paren};
+ghost use Rattle.c_parser_rules.specs.Bodies.{body};
+ghost use Rattle.c_parser_rules.specs.Bodies as bodies;
+ghost use Rattle.c_parser_expressions.specs.Reads.{Reads};
 
 use crate::array::arrays;
-use crate::cursor::{Cursor, LEVELS, Stop};
-use crate::specifier::{specifier, stars};
 use crate::trees;
-use c_tree::syntax::{Parameter, ParameterDeclarator, Parameters, Specifier};
+use c_parser_expressions::cursor::{Cursor, LEVELS, Stop};
+use c_parser_expressions::specifier::{specifier, stars};
 use c_words::place::At;
 use c_words::words::Punctuator;
 use std::alloc::Global;
+use syntax_tree::syntax::{Parameter, ParameterDeclarator, Parameters, Specifier};
 
 /// What a parameter makes of its specifier's type (C11 6.7.6 and 6.7.7). The specifier stands here.
 #[cycle(parameter)]
@@ -53,7 +53,8 @@ fn nested(
     stars: u32,
 ) -> Result<ParameterDeclarator, Stop>
     requires { level ≤ 200 }
-    ensures { Reads Sort.parameter_declarator (bodies.parameter_declarator_by level at stars (Some (tokens.Token.Mark marks.OpenParen))) parameter_declarator_tree cursor.old result cursor.new }
+    ensures { Reads Sort.parameter_declarator
+        (bodies.parameter_declarator_by level at stars (Some (tokens.Token.Punctuator marks.OpenParen))) parameter_declarator_tree cursor.old result cursor.new }
 {
     cursor.take_mark(Punctuator::OpenParen, level < LEVELS)?;
     let inner = parameter_declarator(alloc, cursor, level + 1, at)?;
@@ -66,7 +67,7 @@ fn nested(
 }
 
 // Whether a parameter's declarator has no tokens.
-#[tactic(auto, using(c_tree::proofs::SyntaxViews::declaration_views))]
+#[tactic(auto, using(syntax_tree::proofs::SyntaxViews::declaration_views))]
 fn is_no_declarator(declarator: &ParameterDeclarator) -> bool
     ensures { result ≡ bodies.is_no_declarator (parameter_declarator_tree declarator.now) }
 {
@@ -159,7 +160,8 @@ pub fn optional_parameters(
     depth: u32,
 ) -> Result<Option<Parameters>, Stop>
     requires { depth ≤ 200 }
-    ensures { Reads (Sort.optional Sort.parameters) (body (Rule.optionally is_close_paren (Rule.parameters depth))) (option_map parameters_tree) cursor.old result cursor.new }
+    ensures { Reads (Sort.optional Sort.parameters) (body (Rule.optionally is_close_paren (Rule.parameters depth)))
+        (option_map parameters_tree) cursor.old result cursor.new }
 {
     if cursor.sees(Punctuator::CloseParen) {
         return Ok(None);

@@ -2,17 +2,17 @@
 ghost use Rattle.std.specs.Prelude.{◌≡◌, ◌<◌, ◌^◌, length};
 ghost use Rattle.c_lexer.specs.Text.{placed};
 ghost use Rattle.c_lexer.specs.Views.{lexemes};
-ghost use Rattle.c_tree.specs.Syntax.{UnitTree};
-ghost use Rattle.c_tree.specs.GrammarLimits.{within_limits};
-ghost use Rattle.c_tree.specs.Grammar.{Derives};
+ghost use Rattle.syntax_tree.specs.Syntax.{UnitTree};
+ghost use Rattle.syntax_tree.specs.GrammarLimits.{within_limits};
+ghost use Rattle.syntax_tree.specs.Grammar.{Derives};
 ghost use Rattle.c_parser.specs.Parse.{IsAnswer, Accepts, stop_place};
 
-use crate::cursor::{Cursor, Stop};
 use crate::unit::unit;
 use c_lexer::{Token, Tokens};
-use c_tree::syntax::Unit;
+use c_parser_expressions::cursor::{Cursor, Stop};
 use c_words::place::At;
 use std::alloc::Global;
+use syntax_tree::syntax::Unit;
 use thiserror::Error;
 
 /// Why tokens are no file of C. A token is named by its number, from 0, and its line, from 1; the end of the file counts

@@ -1,19 +1,19 @@
 //! Statements with no other statement in them, and how a `for` begins.
 ghost use Rattle.std.specs.Prelude.{◌≡◌, ◌≤◌, false, option_map};
-ghost use Rattle.c_tree.specs.SyntaxViews.{expression_tree, for_start_tree, statement_tree};
-ghost use Rattle.c_parser.specs.Programs.{Sort, Rule};
-ghost use Rattle.c_parser.specs.Tests.{first, is_semicolon, is_close_paren, is_compound};
-ghost use Rattle.c_parser.specs.Bodies.{body};
-ghost use Rattle.c_parser.specs.Bodies as bodies;
-ghost use Rattle.c_parser.specs.Reads.{Reads};
+ghost use Rattle.syntax_tree.specs.SyntaxViews.{expression_tree, for_start_tree, statement_tree};
+ghost use Rattle.c_parser_rules.specs.Programs.{Sort, Rule};
+ghost use Rattle.c_parser_rules.specs.Tests.{first, is_semicolon, is_close_paren, is_compound};
+ghost use Rattle.c_parser_rules.specs.Bodies.{body};
+ghost use Rattle.c_parser_rules.specs.Bodies as bodies;
+ghost use Rattle.c_parser_expressions.specs.Reads.{Reads};
 
-use crate::cursor::{Cursor, Stop};
 use crate::declaration::declaration;
-use crate::expression::expression;
 use crate::trees;
-use c_tree::syntax::{Expression, ForStart, Statement};
-use c_words::words::{Punctuator, Reserved};
+use c_parser_expressions::cursor::{Cursor, Stop};
+use c_parser_expressions::expression::expression;
+use c_words::words::{Keyword, Punctuator};
 use std::alloc::Global;
+use syntax_tree::syntax::{Expression, ForStart, Statement};
 
 /// The expression in front of a `;`, where there is one.
 pub fn optional_value(
@@ -22,7 +22,8 @@ pub fn optional_value(
     depth: u32,
 ) -> Result<Option<Expression>, Stop>
     requires { depth ≤ 200 }
-    ensures { Reads (Sort.optional Sort.expression) (body (Rule.optionally is_semicolon (Rule.expression depth))) (option_map expression_tree) cursor.old result cursor.new }
+    ensures { Reads (Sort.optional Sort.expression) (body (Rule.optionally is_semicolon (Rule.expression depth)))
+        (option_map expression_tree) cursor.old result cursor.new }
 {
     if cursor.sees(Punctuator::Semicolon) {
         return Ok(None);
@@ -38,7 +39,8 @@ pub fn optional_step(
     depth: u32,
 ) -> Result<Option<Expression>, Stop>
     requires { depth ≤ 200 }
-    ensures { Reads (Sort.optional Sort.expression) (body (Rule.optionally is_close_paren (Rule.expression depth))) (option_map expression_tree) cursor.old result cursor.new }
+    ensures { Reads (Sort.optional Sort.expression) (body (Rule.optionally is_close_paren (Rule.expression depth)))
+        (option_map expression_tree) cursor.old result cursor.new }
 {
     if cursor.sees(Punctuator::CloseParen) {
         return Ok(None);
@@ -85,17 +87,17 @@ pub fn simple(alloc: Global, cursor: &mut Cursor<'_>, depth: u32) -> Result<(Sta
         let at = cursor.take_next(true)?;
         return Ok((trees::empty(at), false));
     }
-    if cursor.sees_word(Reserved::Break) {
+    if cursor.sees_word(Keyword::Break) {
         let at = cursor.take_next(true)?;
         cursor.take_mark(Punctuator::Semicolon, true)?;
         return Ok((trees::break_statement(at), false));
     }
-    if cursor.sees_word(Reserved::Continue) {
+    if cursor.sees_word(Keyword::Continue) {
         let at = cursor.take_next(true)?;
         cursor.take_mark(Punctuator::Semicolon, true)?;
         return Ok((trees::continue_statement(at), false));
     }
-    if cursor.sees_word(Reserved::Return) {
+    if cursor.sees_word(Keyword::Return) {
         let at = cursor.take_next(true)?;
         let value = optional_value(alloc, cursor, depth)?;
         cursor.take_mark(Punctuator::Semicolon, true)?;

@@ -3,22 +3,22 @@
 ghost use Rattle.std.specs.Prelude.{◌≤◌, ◌<◌, Some};
 ghost use Rattle.c_words.specs.Tokens as tokens;
 ghost use Rattle.c_words.specs.declared.words.Punctuator.TheVariants as marks;
-ghost use Rattle.c_words.specs.declared.words.Reserved.TheVariants as words;
-ghost use Rattle.c_tree.specs.SyntaxViews.{expression_tree, statement_tree, block_tree, block_item_tree, block_item_trees};
-ghost use Rattle.c_parser.specs.Programs.{Sort, Rule};
-ghost use Rattle.c_parser.specs.Bodies.{body};
-ghost use Rattle.c_parser.specs.Bodies as bodies;
-ghost use Rattle.c_parser.specs.Reads.{Reads};
+ghost use Rattle.c_words.specs.declared.words.Keyword.TheVariants as words;
+ghost use Rattle.syntax_tree.specs.SyntaxViews.{expression_tree, statement_tree, block_tree, block_item_tree, block_item_trees};
+ghost use Rattle.c_parser_rules.specs.Programs.{Sort, Rule};
+ghost use Rattle.c_parser_rules.specs.Bodies.{body};
+ghost use Rattle.c_parser_rules.specs.Bodies as bodies;
+ghost use Rattle.c_parser_expressions.specs.Reads.{Reads};
 
-use crate::cursor::{Cursor, LEVELS, Stop};
 use crate::declaration::declaration;
-use crate::expression::expression;
 use crate::simple::{for_start, optional_step, optional_value, simple};
 use crate::trees;
-use c_tree::syntax::{Block, BlockItem, Expression, Statement};
+use c_parser_expressions::cursor::{Cursor, LEVELS, Stop};
+use c_parser_expressions::expression::expression;
 use c_words::place::At;
-use c_words::words::{Punctuator, Reserved};
+use c_words::words::{Keyword, Punctuator};
 use std::alloc::Global;
+use syntax_tree::syntax::{Block, BlockItem, Expression, Statement};
 
 /// A statement (C11 6.8).
 #[cycle(statement)]
@@ -34,16 +34,16 @@ pub fn statement(
         let block = block(alloc, cursor, depth)?;
         return Ok((trees::block_statement(block), false));
     }
-    if cursor.sees_word(Reserved::If) {
+    if cursor.sees_word(Keyword::If) {
         return if_statement(alloc, cursor, depth);
     }
-    if cursor.sees_word(Reserved::While) {
+    if cursor.sees_word(Keyword::While) {
         return while_statement(alloc, cursor, depth);
     }
-    if cursor.sees_word(Reserved::Do) {
+    if cursor.sees_word(Keyword::Do) {
         return do_statement(alloc, cursor, depth);
     }
-    if cursor.sees_word(Reserved::For) {
+    if cursor.sees_word(Keyword::For) {
         return for_statement(alloc, cursor, depth);
     }
     simple(alloc, cursor, depth)
@@ -68,9 +68,10 @@ fn if_statement(
     depth: u32,
 ) -> Result<(Statement, bool), Stop>
     requires { depth ≤ 200 }
-    ensures { Reads Sort.statement (bodies.statement_by depth (Some (tokens.Token.Word words.If))) (λ x. (statement_tree x.0, x.1)) cursor.old result cursor.new }
+    ensures { Reads Sort.statement (bodies.statement_by depth (Some (tokens.Token.Keyword words.If)))
+        (λ x. (statement_tree x.0, x.1)) cursor.old result cursor.new }
 {
-    let at = cursor.take_word(Reserved::If)?;
+    let at = cursor.take_word(Keyword::If)?;
     cursor.take_mark(Punctuator::OpenParen, depth < LEVELS)?;
     let condition = expression(alloc, cursor, depth + 1)?;
     cursor.take_mark(Punctuator::CloseParen, true)?;
@@ -91,15 +92,16 @@ fn otherwise(
     is_open: bool,
 ) -> Result<(Statement, bool), Stop>
     requires { depth < 200 }
-    ensures { Reads Sort.statement (bodies.else_by at (expression_tree condition) depth (statement_tree then.value, is_open)) (λ x. (statement_tree x.0, x.1)) cursor.old result cursor.new }
+    ensures { Reads Sort.statement (bodies.else_by at (expression_tree condition) depth (statement_tree then.value, is_open))
+        (λ x. (statement_tree x.0, x.1)) cursor.old result cursor.new }
 {
     if is_open {
         return Ok((trees::only_if(at, condition, then), true));
     }
-    if !cursor.sees_word(Reserved::Else) {
+    if !cursor.sees_word(Keyword::Else) {
         return Ok((trees::only_if(at, condition, then), true));
     }
-    cursor.take_word(Reserved::Else)?;
+    cursor.take_word(Keyword::Else)?;
     let (other, is_open) = inner(alloc, cursor, depth + 1)?;
     Ok((trees::if_else(at, condition, then, other), is_open))
 }
@@ -112,9 +114,10 @@ fn while_statement(
     depth: u32,
 ) -> Result<(Statement, bool), Stop>
     requires { depth ≤ 200 }
-    ensures { Reads Sort.statement (bodies.statement_by depth (Some (tokens.Token.Word words.While))) (λ x. (statement_tree x.0, x.1)) cursor.old result cursor.new }
+    ensures { Reads Sort.statement (bodies.statement_by depth (Some (tokens.Token.Keyword words.While)))
+        (λ x. (statement_tree x.0, x.1)) cursor.old result cursor.new }
 {
-    let at = cursor.take_word(Reserved::While)?;
+    let at = cursor.take_word(Keyword::While)?;
     cursor.take_mark(Punctuator::OpenParen, depth < LEVELS)?;
     let condition = expression(alloc, cursor, depth + 1)?;
     cursor.take_mark(Punctuator::CloseParen, true)?;
@@ -133,9 +136,10 @@ fn do_statement(
     depth: u32,
 ) -> Result<(Statement, bool), Stop>
     requires { depth ≤ 200 }
-    ensures { Reads Sort.statement (bodies.statement_by depth (Some (tokens.Token.Word words.Do))) (λ x. (statement_tree x.0, x.1)) cursor.old result cursor.new }
+    ensures { Reads Sort.statement (bodies.statement_by depth (Some (tokens.Token.Keyword words.Do)))
+        (λ x. (statement_tree x.0, x.1)) cursor.old result cursor.new }
 {
-    let at = cursor.take_word(Reserved::Do)?;
+    let at = cursor.take_word(Keyword::Do)?;
     if !cursor.sees_statement() {
         return Err(Stop::Syntax);
     }
@@ -143,7 +147,7 @@ fn do_statement(
         return Err(Stop::TooDeep);
     }
     let (body, _) = inner(alloc, cursor, depth + 1)?;
-    cursor.take_word(Reserved::While)?;
+    cursor.take_word(Keyword::While)?;
     cursor.take_mark(Punctuator::OpenParen, true)?;
     let condition = expression(alloc, cursor, depth + 1)?;
     cursor.take_mark(Punctuator::CloseParen, true)?;
@@ -162,9 +166,10 @@ fn for_statement(
     depth: u32,
 ) -> Result<(Statement, bool), Stop>
     requires { depth ≤ 200 }
-    ensures { Reads Sort.statement (bodies.statement_by depth (Some (tokens.Token.Word words.For))) (λ x. (statement_tree x.0, x.1)) cursor.old result cursor.new }
+    ensures { Reads Sort.statement (bodies.statement_by depth (Some (tokens.Token.Keyword words.For)))
+        (λ x. (statement_tree x.0, x.1)) cursor.old result cursor.new }
 {
-    let at = cursor.take_word(Reserved::For)?;
+    let at = cursor.take_word(Keyword::For)?;
     cursor.take_mark(Punctuator::OpenParen, depth < LEVELS)?;
     let start = for_start(alloc, cursor, depth + 1)?;
     let condition = optional_value(alloc, cursor, depth + 1)?;

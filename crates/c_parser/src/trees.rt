@@ -1,17 +1,18 @@
 //! Trees of declarations and statements, and what they stand for.
 ghost use Rattle.std.specs.Prelude.{◌≡◌, map};
 ghost use Rattle.std.specs.Option.{option_map};
-ghost use Rattle.c_tree.specs.Syntax.{ParameterDeclaratorTree, DeclaratorTree, InitializerTree, StatementTree, BlockTree, BlockItemTree};
-ghost use Rattle.c_tree.specs.SyntaxViews.{expression_tree, array_tree, parameter_declarator_tree, suffix_tree, declarator_tree, initializer_tree, initializer_trees, declaration_tree, for_start_tree, statement_tree, block_tree, block_item_tree, block_item_trees};
+ghost use Rattle.syntax_tree.specs.Syntax.{ParameterDeclaratorTree, DeclaratorTree, InitializerTree, StatementTree, BlockTree, BlockItemTree};
+ghost use Rattle.syntax_tree.specs.SyntaxViews.{expression_tree, array_tree, parameter_declarator_tree, suffix_tree, declarator_tree, initializer_tree};
+ghost use Rattle.syntax_tree.specs.SyntaxViews.{initializer_trees, declaration_tree, for_start_tree, statement_tree, block_tree, block_item_tree, block_item_trees};
 
-use c_tree::syntax::{
+use c_words::place::{At, Name};
+use syntax_tree::syntax::{
     Array, Block, BlockItem, Declaration, Declarator, Expression, ForStart, Initializer,
     ParameterDeclarator, Statement, Suffix,
 };
-use c_words::place::{At, Name};
 
 /// A parameter's pointers and arrays.
-#[tactic(auto, using(c_tree::proofs::SyntaxViews::declaration_views))]
+#[tactic(auto, using(syntax_tree::proofs::SyntaxViews::declaration_views))]
 pub fn unnamed_parameter(at: At, stars: u32, arrays: Vec<Array>) -> ParameterDeclarator
     ensures { parameter_declarator_tree result ≡ ParameterDeclaratorTree.Unnamed at stars (map array_tree arrays.items) }
 {
@@ -19,7 +20,7 @@ pub fn unnamed_parameter(at: At, stars: u32, arrays: Vec<Array>) -> ParameterDec
 }
 
 /// A parameter's pointers, its name and its arrays.
-#[tactic(auto, using(c_tree::proofs::SyntaxViews::declaration_views))]
+#[tactic(auto, using(syntax_tree::proofs::SyntaxViews::declaration_views))]
 pub fn named_parameter(at: At, stars: u32, name: Name, arrays: Vec<Array>) -> ParameterDeclarator
     ensures { parameter_declarator_tree result ≡ ParameterDeclaratorTree.Named at stars name (map array_tree arrays.items) }
 {
@@ -32,7 +33,7 @@ pub fn named_parameter(at: At, stars: u32, name: Name, arrays: Vec<Array>) -> Pa
 }
 
 /// Pointers, a declared name, and what follows it.
-#[tactic(auto, using(c_tree::proofs::SyntaxViews::declaration_views))]
+#[tactic(auto, using(syntax_tree::proofs::SyntaxViews::declaration_views))]
 pub fn named(at: At, stars: u32, name: Name, suffixes: Vec<Suffix>) -> Declarator
     ensures { declarator_tree result ≡ DeclaratorTree.Named at stars name (map suffix_tree suffixes.items) }
 {
@@ -45,7 +46,7 @@ pub fn named(at: At, stars: u32, name: Name, suffixes: Vec<Suffix>) -> Declarato
 }
 
 /// An expression as an initializer.
-#[tactic(auto, using(c_tree::proofs::SyntaxViews::declaration_views))]
+#[tactic(auto, using(syntax_tree::proofs::SyntaxViews::declaration_views))]
 pub fn single(value: Expression) -> Initializer
     ensures { initializer_tree result ≡ InitializerTree.Expression (expression_tree value) }
 {
@@ -53,7 +54,7 @@ pub fn single(value: Expression) -> Initializer
 }
 
 /// Parts in braces as an initializer.
-#[tactic(auto, using(c_tree::proofs::SyntaxViews::declaration_views))]
+#[tactic(auto, using(syntax_tree::proofs::SyntaxViews::declaration_views))]
 pub fn braced(at: At, parts: Vec<Initializer>) -> Initializer
     ensures { initializer_tree result ≡ InitializerTree.Braced at (initializer_trees parts.items) }
 {
@@ -61,21 +62,21 @@ pub fn braced(at: At, parts: Vec<Initializer>) -> Initializer
 }
 
 /// `{ items }`
-#[tactic(auto, using(c_tree::proofs::SyntaxViews::statement_views))]
+#[tactic(auto, using(syntax_tree::proofs::SyntaxViews::statement_views))]
 pub fn block(at: At, items: Vec<BlockItem>) -> Block
     ensures { block_tree result ≡ BlockTree.block at (block_item_trees items.items) }
 {
     Block { at, items }
 }
 
-#[tactic(auto, using(c_tree::proofs::SyntaxViews::statement_views))]
+#[tactic(auto, using(syntax_tree::proofs::SyntaxViews::statement_views))]
 pub fn declaration_item(declaration: Declaration) -> BlockItem
     ensures { block_item_tree result ≡ BlockItemTree.Declaration (declaration_tree declaration) }
 {
     BlockItem::Declaration(declaration)
 }
 
-#[tactic(auto, using(c_tree::proofs::SyntaxViews::statement_views))]
+#[tactic(auto, using(syntax_tree::proofs::SyntaxViews::statement_views))]
 pub fn statement_item(statement: Statement) -> BlockItem
     ensures { block_item_tree result ≡ BlockItemTree.Statement (statement_tree statement) }
 {
@@ -83,7 +84,7 @@ pub fn statement_item(statement: Statement) -> BlockItem
 }
 
 /// A block as a statement.
-#[tactic(auto, using(c_tree::proofs::SyntaxViews::statement_views))]
+#[tactic(auto, using(syntax_tree::proofs::SyntaxViews::statement_views))]
 pub fn block_statement(block: Block) -> Statement
     ensures { statement_tree result ≡ StatementTree.Block (block_tree block) }
 {
@@ -91,7 +92,7 @@ pub fn block_statement(block: Block) -> Statement
 }
 
 /// `;`
-#[tactic(auto, using(c_tree::proofs::SyntaxViews::statement_views))]
+#[tactic(auto, using(syntax_tree::proofs::SyntaxViews::statement_views))]
 pub fn empty(at: At) -> Statement
     ensures { statement_tree result ≡ StatementTree.Empty at }
 {
@@ -99,7 +100,7 @@ pub fn empty(at: At) -> Statement
 }
 
 /// `value ;`
-#[tactic(auto, using(c_tree::proofs::SyntaxViews::statement_views))]
+#[tactic(auto, using(syntax_tree::proofs::SyntaxViews::statement_views))]
 pub fn value_statement(at: At, value: Expression) -> Statement
     ensures { statement_tree result ≡ StatementTree.Expression at (expression_tree value) }
 {
@@ -107,7 +108,7 @@ pub fn value_statement(at: At, value: Expression) -> Statement
 }
 
 /// `if ( condition ) then`
-#[tactic(auto, using(c_tree::proofs::SyntaxViews::statement_views))]
+#[tactic(auto, using(syntax_tree::proofs::SyntaxViews::statement_views))]
 pub fn only_if(at: At, condition: Expression, then: Box<Statement>) -> Statement
     ensures { statement_tree result ≡ StatementTree.If at (expression_tree condition) (statement_tree then.value) }
 {
@@ -120,7 +121,7 @@ pub fn only_if(at: At, condition: Expression, then: Box<Statement>) -> Statement
 }
 
 /// `if ( condition ) then else otherwise`
-#[tactic(auto, using(c_tree::proofs::SyntaxViews::statement_views))]
+#[tactic(auto, using(syntax_tree::proofs::SyntaxViews::statement_views))]
 pub fn if_else(
     at: At,
     condition: Expression,
@@ -138,7 +139,7 @@ pub fn if_else(
 }
 
 /// `while ( condition ) body`
-#[tactic(auto, using(c_tree::proofs::SyntaxViews::statement_views))]
+#[tactic(auto, using(syntax_tree::proofs::SyntaxViews::statement_views))]
 pub fn while_loop(at: At, condition: Expression, body: Box<Statement>) -> Statement
     ensures { statement_tree result ≡ StatementTree.While at (expression_tree condition) (statement_tree body.value) }
 {
@@ -150,7 +151,7 @@ pub fn while_loop(at: At, condition: Expression, body: Box<Statement>) -> Statem
 }
 
 /// `do body while ( condition ) ;`
-#[tactic(auto, using(c_tree::proofs::SyntaxViews::statement_views))]
+#[tactic(auto, using(syntax_tree::proofs::SyntaxViews::statement_views))]
 pub fn do_while(at: At, body: Box<Statement>, condition: Expression) -> Statement
     ensures { statement_tree result ≡ StatementTree.DoWhile at (statement_tree body.value) (expression_tree condition) }
 {
@@ -162,7 +163,7 @@ pub fn do_while(at: At, body: Box<Statement>, condition: Expression) -> Statemen
 }
 
 /// `for ( start condition ; step ) body`
-#[tactic(auto, using(c_tree::proofs::SyntaxViews::statement_views))]
+#[tactic(auto, using(syntax_tree::proofs::SyntaxViews::statement_views))]
 pub fn for_loop(
     at: At,
     start: ForStart,
@@ -170,7 +171,8 @@ pub fn for_loop(
     step: Option<Expression>,
     body: Box<Statement>,
 ) -> Statement
-    ensures { statement_tree result ≡ StatementTree.For at (for_start_tree start) (option_map expression_tree condition) (option_map expression_tree step) (statement_tree body.value) }
+    ensures { statement_tree result ≡ StatementTree.For at (for_start_tree start) (option_map expression_tree condition) (option_map expression_tree step)
+        (statement_tree body.value) }
 {
     Statement::For {
         at,
@@ -182,7 +184,7 @@ pub fn for_loop(
 }
 
 /// `break ;`
-#[tactic(auto, using(c_tree::proofs::SyntaxViews::statement_views))]
+#[tactic(auto, using(syntax_tree::proofs::SyntaxViews::statement_views))]
 pub fn break_statement(at: At) -> Statement
     ensures { statement_tree result ≡ StatementTree.Break at }
 {
@@ -190,7 +192,7 @@ pub fn break_statement(at: At) -> Statement
 }
 
 /// `continue ;`
-#[tactic(auto, using(c_tree::proofs::SyntaxViews::statement_views))]
+#[tactic(auto, using(syntax_tree::proofs::SyntaxViews::statement_views))]
 pub fn continue_statement(at: At) -> Statement
     ensures { statement_tree result ≡ StatementTree.Continue at }
 {
@@ -198,7 +200,7 @@ pub fn continue_statement(at: At) -> Statement
 }
 
 /// `return value ;`, or without a value
-#[tactic(auto, using(c_tree::proofs::SyntaxViews::statement_views))]
+#[tactic(auto, using(syntax_tree::proofs::SyntaxViews::statement_views))]
 pub fn return_statement(at: At, value: Option<Expression>) -> Statement
     ensures { statement_tree result ≡ StatementTree.Return at (option_map expression_tree value) }
 {

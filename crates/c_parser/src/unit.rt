@@ -1,23 +1,23 @@
 //! The declarations of a file.
 ghost use Rattle.std.specs.Prelude.{◌≡◌, ◌≤◌, [], map, IfOk};
-ghost use Rattle.c_tree.specs.SyntaxViews.{init_declarator_tree, member_declaration_tree, head_tree, external_tree, unit_tree};
-ghost use Rattle.c_parser.specs.Programs.{Sort, Rule};
-ghost use Rattle.c_parser.specs.Tests.{goes_on, is_some};
-ghost use Rattle.c_parser.specs.Bodies.{body, struct_by};
-ghost use Rattle.c_parser.specs.Reads.{Reads, GoesOn};
+ghost use Rattle.syntax_tree.specs.SyntaxViews.{init_declarator_tree, member_declaration_tree, head_tree, external_tree, unit_tree};
+ghost use Rattle.c_parser_rules.specs.Programs.{Sort, Rule};
+ghost use Rattle.c_parser_rules.specs.Tests.{goes_on, is_some};
+ghost use Rattle.c_parser_rules.specs.Bodies.{body, struct_by};
+ghost use Rattle.c_parser_expressions.specs.Reads.{Reads, GoesOn};
 
-use crate::cursor::{Cursor, LEVELS, Stop};
 use crate::declaration::{init_declarators, init_rest, member};
 use crate::declarator::declarator;
-use crate::leaf::identifier;
-use crate::specifier::specifier;
 use crate::statement::block;
-use c_tree::syntax::{
+use c_parser_expressions::cursor::{Cursor, LEVELS, Stop};
+use c_parser_expressions::leaf::identifier;
+use c_parser_expressions::specifier::specifier;
+use c_words::place::{At, Name};
+use c_words::words::{Keyword, Punctuator};
+use std::alloc::Global;
+use syntax_tree::syntax::{
     External, Head, InitDeclarator, MemberDeclaration, Specifier, StructDefinition, Unit,
 };
-use c_words::place::{At, Name};
-use c_words::words::{Punctuator, Reserved};
-use std::alloc::Global;
 
 /// Where an empty file stands.
 const START_OF_FILE: At = At { token: 0, line: 1 };
@@ -30,7 +30,8 @@ fn members(
     mut members: Vec<MemberDeclaration>,
 ) -> Result<Vec<MemberDeclaration>, Stop>
     requires { depth ≤ 200 }
-    ensures { GoesOn (Sort.many Sort.member) (body (Rule.repeat goes_on (Rule.member depth))) (map member_declaration_tree) (λ v. v.items) members.items cursor.old result cursor.new }
+    ensures { GoesOn (Sort.many Sort.member) (body (Rule.repeat goes_on (Rule.member depth))) (map member_declaration_tree)
+        (λ v. v.items) members.items cursor.old result cursor.new }
 {
     'members: while !cursor.sees(Punctuator::CloseBrace) {
         let member = member(alloc, cursor, depth)?;
@@ -73,7 +74,7 @@ fn head(alloc: Global, cursor: &mut Cursor<'_>, depth: u32) -> Result<(Head, At)
     requires { depth ≤ 200 }
     ensures { Reads Sort.head (body (Rule.head depth)) (λ h. (head_tree h.0, h.1)) cursor.old result cursor.new }
 {
-    if cursor.sees_word(Reserved::Struct) {
+    if cursor.sees_word(Keyword::Struct) {
         let at = cursor.take_next(true)?;
         let tag = identifier(alloc, cursor)?;
         return structure(alloc, cursor, depth, at, tag);
@@ -91,7 +92,8 @@ fn further(
     first: InitDeclarator,
 ) -> Result<Vec<InitDeclarator>, Stop>
     requires { depth ≤ 200 }
-    ensures { Reads (Sort.many Sort.init_declarator) (body (Rule.commas_rest (Rule.init_declarator depth) (init_declarator_tree first))) (λ v. map init_declarator_tree v.items) cursor.old result cursor.new }
+    ensures { Reads (Sort.many Sort.init_declarator) (body (Rule.commas_rest (Rule.init_declarator depth) (init_declarator_tree first)))
+        (λ v. map init_declarator_tree v.items) cursor.old result cursor.new }
 {
     let mut declarators = Vec::new(alloc);
     declarators.push(first)?;
@@ -142,7 +144,8 @@ fn externals(
     cursor: &mut Cursor<'_>,
     mut externals: Vec<External>,
 ) -> Result<Vec<External>, Stop>
-    ensures reads { GoesOn (Sort.many Sort.external) (body (Rule.repeat is_some (Rule.external 0))) (map external_tree) (λ v. v.items) externals.items cursor.old result cursor.new }
+    ensures reads { GoesOn (Sort.many Sort.external) (body (Rule.repeat is_some (Rule.external 0))) (map external_tree)
+        (λ v. v.items) externals.items cursor.old result cursor.new }
     ensures all { IfOk result (λ _. cursor.new ≡ []) }
 {
     'externals: while !cursor.is_at_end() {

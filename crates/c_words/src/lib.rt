@@ -1,4 +1,4 @@
-//! The words of C: reserved words, punctuators and operators, and places in a text.
+//! The words of C: keywords, punctuators and operators, and places in a text.
 #![tactic(auto)]
 
 pub mod operators;

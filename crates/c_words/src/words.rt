@@ -1,8 +1,8 @@
-//! The reserved words and the punctuators.
+//! The keywords and the punctuators.
 
-/// The 44 keywords of C11 (6.4.1), and `NULL` and `EOF`, which are reserved here.
+/// The 44 keywords of C11 (6.4.1), and `NULL` and `EOF`, which are keywords here.
 #[derive(Clone, Copy, Debug, PartialEq, Eq)]
-pub enum Reserved {
+pub enum Keyword {
     Auto,
     Break,
     Case,

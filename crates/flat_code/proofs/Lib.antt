@@ -1,14 +1,3 @@
 pub mod CodeViewed
 pub mod Emitted
 pub mod Picked
-pub mod Words
-pub mod Move
-pub mod Advance
-pub mod Load
-pub mod Span
-pub mod Worked
-pub mod More
-pub mod Fronts
-pub mod Found
-pub mod Straight
-pub mod Traps

@@ -6,9 +6,7 @@ pub mod Accounts
 pub mod Time
 pub mod Run
 pub mod Sequences
-pub mod Laws
 pub mod Recognized
 pub mod SequenceViews
 pub mod Weight
-pub mod Examples
 pub mod Safety

@@ -162,17 +162,20 @@ second_of s = FSteps.none
 -- the only sequences of each kind that these steps can begin with
 abbrev pub move_of : FSteps → Sequence
 move_of a =
-    Sequence.Move (source (step_at 0 a)) (right_side (step_at 11 a)) (target (step_at 3 a)) (line_value (step_at 0 (second_of (step_at 2 a)))) (target (step_at 0 a)) (target (step_at 1 a))
+    Sequence.Move (source (step_at 0 a)) (right_side (step_at 11 a)) (target (step_at 3 a)) (line_value (step_at 0 (second_of (step_at 2 a))))
+    (target (step_at 0 a)) (target (step_at 1 a))
 
 abbrev pub load_of : FSteps → Sequence
 load_of a =
     let owned = first_of (step_at 1 a) in
-    Sequence.Load (target (step_at 0 a)) (source (step_at 0 a)) (line_value (step_at 0 (second_of (step_at 3 owned)))) (target (step_at 0 owned)) (target (step_at 1 owned))
+    Sequence.Load (target (step_at 0 a)) (source (step_at 0 a)) (line_value (step_at 0 (second_of (step_at 3 owned)))) (target (step_at 0 owned))
+    (target (step_at 1 owned))
 
 abbrev pub span_of : FSteps → Sequence
 span_of a =
     let touch = first_of (step_at 3 a) in
-    Sequence.Span (source (step_at 0 touch)) (source (step_at 1 a)) (target (step_at 6 touch)) (line_value (step_at 0 (second_of (step_at 2 a)))) (target (step_at 0 a)) (target (step_at 3 touch)) (target (step_at 4 touch))
+    Sequence.Span (source (step_at 0 touch)) (source (step_at 1 a)) (target (step_at 6 touch)) (line_value (step_at 0 (second_of (step_at 2 a))))
+    (target (step_at 0 a)) (target (step_at 3 touch)) (target (step_at 4 touch))
 
 abbrev pub if_begins : (g : ℕ) → Sequence → FSteps → Option Sequence → Option Sequence
 if_begins g sequence a other = if starts (sequence_steps g sequence) a && is_apart sequence then Some sequence else other

@@ -1,6 +1,7 @@
 -- What flat code does. The meaning goes down the steps; a call's meaning is a parameter of it, and so are the exponent g
 -- of a slot, how many turns a loop may have, and how many bytes the frame of the function has.
-use Rattle.std.specs.Prelude.{◌==◌, ℕ, zero, suc, ◌+◌, ◌-◌, ◌%◌, ◌^◌, max, true, false, List, [], ◌∷◌, map, Option, Some, None, nat_le, nat_lt, slice_get, slice_index, if◌then◌else◌}
+use Rattle.std.specs.Prelude.{◌==◌, ℕ, zero, suc, ◌+◌, ◌-◌, ◌%◌, ◌^◌, max, true, false, List, []}
+use Rattle.std.specs.Prelude.{◌∷◌, map, Option, Some, None, nat_le, nat_lt, slice_get, slice_index, if◌then◌else◌}
 use Rattle.bb_words.specs.Answers.{Answer, and_then}
 use Rattle.bb_words.specs.Numbers.{all_ones}
 use Rattle.bb_words.specs.Steps.{arith, size_of_width}
@@ -13,7 +14,8 @@ use Rattle.size_table.specs.Blocks.{Block}
 use Rattle.size_table.specs.Table.{byte_of}
 use Rattle.flat_code.specs.Code.{FStep, FSteps, FFunction, FCode}
 use Rattle.flat_code.specs.Told.{Tell}
-use Rattle.flat_code.specs.World.{Memory, with_bytes, bytes_of, read, arguments, FPoint, point, put, spend, tell, choose, Ending, Run, Way, onward, out_of, again}
+use Rattle.flat_code.specs.World.{Memory, with_bytes, bytes_of, read, arguments, FPoint, point, put}
+use Rattle.flat_code.specs.World.{spend, tell, choose, Ending, Run, Way, onward, out_of, again}
 use Rattle.flat_code.specs.Accounts.{stack_under, enter, leave, malloc, free}
 use Rattle.flat_code.specs.Time.{charge, turn_charge, call_charge, start_charge}
 
@@ -197,7 +199,16 @@ start_memory initial at = if nat_lt at GLOBALS_START then 0 else slice_index ini
 -- upper end of the data stack
 abbrev pub start : (initial : List ℕ) → (globals : List Block) → (input : List ℕ) → FPoint
 start initial globals input =
-    point (arguments []) (record { memory = start_memory initial; live = globals; depth = 0; stack = HEAP_START; input = input; told = []; time = start_charge })
+    point (arguments []) (record {
+      memory = start_memory initial;
+      live = globals;
+      depth = 0;
+      stack = HEAP_START;
+      input = input;
+      told = [];
+      time =
+          start_charge;
+    })
 
 abbrev pub exited : (word : ℕ) → FPoint → Run (Unit {0})
 exited word u = ends (Ending.Exited word) u

@@ -4,7 +4,8 @@ ghost use Rattle.std.specs.Prelude.{◌≡◌, ◌≤◌, ◌-◌, ◌^◌, IfOk
 ghost use Rattle.flat_code.specs.Code.{◌+++◌};
 ghost use Rattle.flat_code.specs.Code.FStep.{Number, Arith, If, Slot, Look, Load, Checked};
 ghost use Rattle.flat_code.specs.CodeViews.{step_of, steps_of};
-ghost use Rattle.flat_code.specs.Sequences.{report, address_steps, mark_steps, outside_steps, move_sequence, owned_steps, load_sequence, touch_steps, span_sequence};
+ghost use Rattle.flat_code.specs.Sequences.{report, address_steps, mark_steps, outside_steps, move_sequence};
+ghost use Rattle.flat_code.specs.Sequences.{owned_steps, load_sequence, touch_steps, span_sequence};
 
 use crate::code::FlatStep;
 use bb_words::kinds::ReportKind;

@@ -7,6 +7,5 @@
 
 pub mod code;
 pub mod emit;
-pub mod laws;
 pub mod recognize;
 pub mod same;

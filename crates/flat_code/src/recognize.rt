@@ -1,7 +1,8 @@
 //! Which sequence stands at the front of a list of steps.
 ghost use Rattle.std.specs.Prelude.{◌≡◌, ◌&&◌, ◌∷◌, [], IfOk, ◌≤◌};
 ghost use Rattle.flat_code.specs.CodeViews.{step_of, steps_of};
-ghost use Rattle.flat_code.specs.Recognized.{sequence_at, is_apart, target, source, right_side, line_value, first_of, second_of, step_at, is_none_of, move_is_apart, move_of, load_of, span_of, starts};
+ghost use Rattle.flat_code.specs.Recognized.{sequence_at, is_apart, target, source, right_side, line_value, first_of, second_of};
+ghost use Rattle.flat_code.specs.Recognized.{step_at, is_none_of, move_is_apart, move_of, load_of, span_of, starts};
 ghost use Rattle.flat_code.specs.SequenceViews.{sequence_in, begins};
 ghost use Rattle.flat_code.specs.Recognized.Sequence.{Move, Load, Span};
 ghost use Rattle.flat_code.specs.Sequences.{move_sequence, load_sequence, span_sequence};

@@ -10,7 +10,7 @@ use Rattle.flat_code.specs.Told.{Stamped, tells, AllBy, Begins, Came}
 use Rattle.flat_code.specs.World.{Ending}
 use Rattle.rv_machine.specs.declared.stop.Halt.{Halt}
 use Rattle.rv_machine.specs.Environment.{World}
-use Rattle.rv_machine.specs.Laws.{EndingStays, ToldGrows}
+use Rattle.rv_machine_laws.specs.Laws.{EndingStays, ToldGrows}
 use Rattle.rv_machine.specs.Machine.{steps}
 use Rattle.flat_landing.specs.Shared.{shared}
 use Rattle.flat_landing.specs.Lands.{Outcome, halt_of, KeepsControl, LandsSo, Lands, RunsAs}

@@ -10,15 +10,15 @@ pub fn shared_appends()
 pub fn kept_more()
     ensures { KeptMore }
 {
-    rv_machine::laws::told_grows();
+    rv_machine_laws::laws::told_grows();
 }
 
 /// A machine that lands for every bound runs as flat code does.
 pub fn landings_run()
     ensures { LandingsRun }
 {
-    rv_machine::laws::told_grows();
-    rv_machine::laws::ending_stays();
+    rv_machine_laws::laws::told_grows();
+    rv_machine_laws::laws::ending_stays();
     bb_watch::laws::events_append();
     bb_watch::laws::each_appends();
     bb_watch::laws::open_appends();

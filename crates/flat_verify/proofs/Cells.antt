@@ -2,9 +2,9 @@
 use Rattle.std.proofs.Common.{◌≡◌, ◌<◌, ◌≤◌, ◌⊎◌, ℕ, zero, suc, ◌+◌, ◌-◌, ◌*◌, List, [], ◌∷◌, inl, inr, Option, Some, None, Bool, true, false, refl, sym, ap, ◌∙◌, subst, cond, arith, length, get_or, nat_lt}
 use Rattle.std.specs.Prelude.{slice_get, ◌==◌, ◌&&◌}
 use Rattle.std.proofs.lemmas.Bool.Decides.{nat_tests}
-use Rattle.flat_verify.specs.Facts.{Fact}
+use Rattle.flat_discipline.specs.Facts.{Fact}
 use Rattle.flat_verify.specs.Sheets.{Range, Sheet, width, later, range_number, from_number, none_unless, fact_number, fact_at, spanned, cell, cell_if, fact_cell, Stands}
-use Rattle.flat_verify.proofs.Tables.{yes_lt, no_lt}
+use Rattle.flat_discipline.proofs.Tables.{yes_lt, no_lt}
 
 -- ---- Rows
 

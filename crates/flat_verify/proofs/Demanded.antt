@@ -7,13 +7,13 @@ use Rattle.flat_code.specs.Code.{FStep, FSteps}
 use Rattle.flat_code.specs.CodeViews.{steps_of}
 use Rattle.flat_code.specs.Recognized.{Sequence, sequence_steps}
 use Rattle.flat_verify.specs.declared.facts.Demand.{Demand as DemandWritten}
-use Rattle.flat_verify.specs.Items.{Item, item_of, items_of, steps_places, all_places, first_place}
-use Rattle.flat_verify.specs.Facts.{Fact, Setting, Here, untold, branch}
+use Rattle.flat_discipline.specs.Items.{Item, item_of, items_of, steps_places, all_places, first_place}
+use Rattle.flat_discipline.specs.Facts.{Fact, Setting, Here, untold, branch}
 use Rattle.flat_verify.specs.Effects.{Effect}
-use Rattle.flat_verify.specs.Breaks.{operands, pointer, pointer_use}
+use Rattle.flat_discipline.specs.Breaks.{operands, pointer, pointer_use}
 use Rattle.flat_verify.specs.Links.{Link, goes, links, links_all, body_links, Demand, demand, all_inside, demands, demands_all}
 use Rattle.flat_verify.specs.Views.{demand_of}
-use Rattle.flat_verify.proofs.Walked.{body_size}
+use Rattle.flat_discipline.proofs.Walked.{body_size}
 
 more : {A : Type 0} (p0 p1 p2 a b : List A) → p1 ≡ p0 ++ a → p2 ≡ p1 ++ b → p2 ≡ p0 ++ (a ++ b)
 more p0 p1 p2 a b e f = f ∙ ap (λ p. p ++ b) e ∙ append_assoc p0 a b

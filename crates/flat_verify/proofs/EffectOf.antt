@@ -1,8 +1,8 @@
 -- What an item does to facts is its effect.
 use Rattle.std.proofs.Common.{◌≡◌, refl}
 use Rattle.flat_code.specs.Code.{FStep}
-use Rattle.flat_verify.specs.Items.{Item}
-use Rattle.flat_verify.specs.Facts.{Fact, Setting, Here, source}
+use Rattle.flat_discipline.specs.Items.{Item}
+use Rattle.flat_discipline.specs.Facts.{Fact, Setting, Here, source}
 use Rattle.flat_verify.specs.Effects.{effect, source_by}
 
 pub plain_effect : (s : Setting) (h : Here) (x : FStep) (fact : Fact) → source_by (effect s h (Item.Plain x)) fact ≡ source s h (Item.Plain x) fact

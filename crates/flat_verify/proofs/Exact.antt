@@ -4,22 +4,22 @@ use Rattle.std.specs.Prelude.{slice_get, ◌&&◌}
 use Rattle.std.proofs.lemmas.Option.{slice_get_within}
 use Rattle.size_table.specs.Blocks.{Block}
 use Rattle.flat_code.specs.Code.{FStep, FFunction}
-use Rattle.flat_verify.specs.Items.{Item, items_of, all_places}
-use Rattle.flat_verify.specs.Facts.{Fact, Source, Setting, Here, untold, source}
+use Rattle.flat_discipline.specs.Items.{Item, items_of, all_places}
+use Rattle.flat_discipline.specs.Facts.{Fact, Source, Setting, Here, untold, source}
 use Rattle.flat_verify.specs.Effects.{effect, source_by}
-use Rattle.flat_verify.specs.Chains.{Edges, body_edges, Spot, fact_in, Lost}
-use Rattle.flat_verify.specs.Closed.{Known, holds, ClosedOn, Exact}
-use Rattle.flat_verify.specs.Discipline.{params_in, values_in, edges_in, setting, edges}
+use Rattle.flat_discipline.specs.Chains.{Edges, body_edges, Spot, fact_in, Lost}
+use Rattle.flat_discipline.specs.Closed.{Known, holds, ClosedOn, Exact}
+use Rattle.flat_discipline.specs.Discipline.{params_in, values_in, edges_in, setting, edges}
 use Rattle.flat_verify.specs.Links.{OfEach, Link}
 use Rattle.flat_verify.specs.Reach.{Rule, rule, Reached, is_marked}
 use Rattle.flat_verify.specs.Sheets.{Range, Sheet, width, none_unless, from_number, range_number, fact_number, fact_at, cell, fact_cell, rule_if, rule_both, source_cell, goes_rules, passes_to, link_rules, links_rules, start_rules, sheet_rules, all_rules, marked_if, cell_in, known, gives, spanned, Stands, InPlaces, is_some, is_asked, asked_in, asks, in_values, IsCovered, IsSheet, AreSheets}
 use Rattle.flat_verify.proofs.EffectOf.{item_effect}
-use Rattle.flat_verify.proofs.Least.{every_edge, edge_every}
+use Rattle.flat_discipline.proofs.Least.{every_edge, edge_every}
 use Rattle.flat_verify.proofs.Links.{each_append, each_first, each_second, OfHands, OfEdge, edges_links, links_edges}
 use Rattle.flat_verify.proofs.Marks.{IsClosed}
 use Rattle.flat_verify.proofs.Cells.{not_none, same_number, same_sheet, lt_from, IsCell, IsCellOf, one_cell, numbered, cell_of, of_cell, stands_above, unless_some, from_some, ranged}
 use Rattle.flat_verify.proofs.RuleLists.{asked_source, asked_number, each_contained, contained_each, goes_at, at_goes, pass_at, at_pass, start_at, at_start, links_at, at_links, sheet_at, at_sheet}
-use Rattle.flat_verify.proofs.Tables.{yes_lt, no_lt}
+use Rattle.flat_discipline.proofs.Tables.{yes_lt, no_lt}
 
 abbrev the_function : FFunction → Option FFunction → FFunction
 the_function d None = d

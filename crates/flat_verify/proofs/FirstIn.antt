@@ -7,17 +7,17 @@ use Rattle.flat_code.specs.declared.code.FlatFunction.{FlatFunction}
 use Rattle.flat_code.specs.Code.{FFunction, FCode}
 use Rattle.flat_code.specs.CodeViews.{function_of, steps_of}
 use Rattle.flat_verify.specs.declared.sheets.Sheet.{Sheet as SheetWritten}
-use Rattle.flat_verify.specs.Closed.{Known}
-use Rattle.flat_verify.specs.Discipline.{setting_in, setting, Place, FirstBad, FirstBreak}
-use Rattle.flat_verify.specs.Laws.{BreaksByTable}
+use Rattle.flat_discipline.specs.Closed.{Known}
+use Rattle.flat_discipline.specs.Discipline.{setting_in, setting, Place, FirstBad, FirstBreak}
+use Rattle.flat_discipline.specs.Laws.{BreaksByTable}
 use Rattle.flat_verify.specs.Reach.{Reached, is_marked}
-use Rattle.flat_verify.specs.Items.{items_of}
+use Rattle.flat_discipline.specs.Items.{items_of}
 use Rattle.flat_verify.specs.Links.{OfEach, Demand, body_links}
 use Rattle.flat_verify.specs.Outline.{HasRange}
 use Rattle.flat_verify.specs.Sheets.{Sheet, width, all_rules, asks, gives, known, Stands, InPlaces, IsSheet, AreSheets}
 use Rattle.flat_verify.specs.SheetViews.{sheet_of}
 use Rattle.flat_verify.specs.Verdict.{function_demands, first_unmet}
-use Rattle.flat_verify.proofs.Breaks.{exact_tables_tell}
+use Rattle.flat_discipline.proofs.Breaks.{exact_tables_tell}
 use Rattle.flat_verify.proofs.Exact.{same_function, exact}
 use Rattle.flat_verify.proofs.Outlined.{all_covered}
 use Rattle.flat_verify.proofs.Firsts.{NoneBefore, one_further, found_first, no_main, none_bad}

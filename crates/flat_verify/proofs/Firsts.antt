@@ -5,12 +5,12 @@ use Rattle.std.proofs.lemmas.Option.{slice_get_past}
 use Rattle.std.proofs.lemmas.Bool.Decides.{nat_tests}
 use Rattle.size_table.specs.Blocks.{Block}
 use Rattle.flat_code.specs.Code.{FFunction, FCode}
-use Rattle.flat_verify.specs.Items.{items_of}
-use Rattle.flat_verify.specs.Facts.{Fact, Setting}
-use Rattle.flat_verify.specs.Closed.{Known}
+use Rattle.flat_discipline.specs.Items.{items_of}
+use Rattle.flat_discipline.specs.Facts.{Fact, Setting}
+use Rattle.flat_discipline.specs.Closed.{Known}
 use Rattle.flat_verify.specs.Links.{Demand, AnyLost, IsUnmet, UnmetAt}
-use Rattle.flat_verify.specs.Discipline.{Place, Before, FirstBad, BreaksBy, setting}
-use Rattle.flat_verify.specs.Laws.{BreaksByTable}
+use Rattle.flat_discipline.specs.Discipline.{Place, Before, FirstBad, BreaksBy, setting}
+use Rattle.flat_discipline.specs.Laws.{BreaksByTable}
 use Rattle.flat_verify.specs.Verdict.{function_demands, any_unknown, is_unmet, lower, first_unmet, FirstOf}
 use Rattle.flat_verify.proofs.Links.{breaks_unmet, unmet_breaks}
 

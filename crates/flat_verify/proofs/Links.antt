@@ -2,12 +2,12 @@
 use Rattle.std.proofs.Common.{◌≡◌, ◌⊎◌, ℕ, suc, ◌+◌, List, [], ◌∷◌, ◌++◌, inl, inr, Option, Some, None, true≢false}
 use Rattle.flat_code.specs.Code.{FStep, FSteps}
 use Rattle.flat_code.specs.Recognized.{Sequence, sequence_steps}
-use Rattle.flat_verify.specs.Items.{Item, Items, step_places, steps_places, places, all_places, first_place}
-use Rattle.flat_verify.specs.Facts.{Fact, Setting, Here, untold, branch, here_after}
+use Rattle.flat_discipline.specs.Items.{Item, Items, step_places, steps_places, places, all_places, first_place}
+use Rattle.flat_discipline.specs.Facts.{Fact, Setting, Here, untold, branch, here_after}
 use Rattle.flat_verify.specs.Effects.{effect}
-use Rattle.flat_verify.specs.Chains.{leading, leads, Edges}
-use Rattle.flat_verify.specs.Closed.{Each, EachAll}
-use Rattle.flat_verify.specs.Breaks.{address, reads, operands, shared, AddressLost, ReadLost, BreaksInside, InsideStep, Inside, Breaks, BreaksAll}
+use Rattle.flat_discipline.specs.Chains.{leading, leads, Edges}
+use Rattle.flat_discipline.specs.Closed.{Each, EachAll}
+use Rattle.flat_discipline.specs.Breaks.{address, reads, operands, shared, AddressLost, ReadLost, BreaksInside, InsideStep, Inside, Breaks, BreaksAll}
 use Rattle.flat_verify.specs.Links.{OfEach, Link, goes, hands_out, links, links_all, Demand, own_all, read_facts, inside, inside_demands, all_inside, demands, demands_all, AnyLost, UnmetAt}
 
 -- ---- What holds of each link

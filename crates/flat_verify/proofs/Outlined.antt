@@ -5,7 +5,7 @@ use Rattle.std.proofs.lemmas.List.{at_drop_more, drop_all, map-append}
 use Rattle.std.proofs.lemmas.Bool.{eq-eqb}
 use Rattle.flat_verify.specs.declared.facts.Link.{Link as LinkWritten}
 use Rattle.flat_verify.specs.declared.sheets.Range.{Range as RangeWritten}
-use Rattle.flat_verify.specs.Facts.{Fact, Source}
+use Rattle.flat_discipline.specs.Facts.{Fact, Source}
 use Rattle.flat_verify.specs.Effects.{Effect}
 use Rattle.flat_verify.specs.Links.{OfEach, Link}
 use Rattle.flat_verify.specs.Outline.{range_in_source, HasRangeIf, HasRange}

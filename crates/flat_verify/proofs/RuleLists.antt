@@ -3,7 +3,7 @@ use Rattle.std.proofs.Common.{◌≡◌, ◌<◌, ◌⊎◌, ℕ, zero, suc, ◌
 use Rattle.std.specs.Prelude.{slice_get, slice_index_or, ◌==◌, ◌||◌}
 use Rattle.std.specs.List.{Contains}
 use Rattle.std.proofs.lemmas.List.Elements.{Contains-append_left, Contains-append_right}
-use Rattle.flat_verify.specs.Facts.{Fact, Source, held_if, gone_if, gives, spans, may_set, is_among, temporaries}
+use Rattle.flat_discipline.specs.Facts.{Fact, Source, held_if, gone_if, gives, spans, may_set, is_among, temporaries}
 use Rattle.flat_verify.specs.Effects.{Effect, source_by}
 use Rattle.flat_verify.specs.Links.{OfEach, Link}
 use Rattle.flat_verify.specs.Reach.{Rule, rule}

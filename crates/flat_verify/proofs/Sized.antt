@@ -3,7 +3,7 @@ use Rattle.std.proofs.Common.{◌≡◌, ◌<◌, ◌≤◌, ℕ, zero, suc, ◌
 use Rattle.std.proofs.lemmas.List.{drop_more, drop_all}
 use Rattle.flat_code.specs.declared.code.FlatStep.{FlatStep}
 use Rattle.flat_code.specs.CodeViews.{step_of, steps_of}
-use Rattle.flat_verify.specs.Items.{step_places, steps_places}
+use Rattle.flat_discipline.specs.Items.{step_places, steps_places}
 
 pub item_places : (xs : List FlatStep) (i : ℕ) (x : FlatStep) → i < length xs → x ≡ get_or xs i x → step_places (step_of x) ≤ steps_places (steps_of xs)
 item_places [] i x l is = absurd (omega (arith, l))

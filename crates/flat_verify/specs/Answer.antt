@@ -4,7 +4,7 @@ use Rattle.size_table.specs.Blocks.{Block}
 use Rattle.flat_code.specs.Code.{FCode}
 use Rattle.flat_verify.specs.declared.error.VerifyError.{VerifyError}
 use Rattle.flat_verify.specs.declared.error.VerifyError.TheVariants as errors
-use Rattle.flat_verify.specs.Discipline.{FirstBreak}
+use Rattle.flat_discipline.specs.Discipline.{FirstBreak}
 
 -- It is verified where nothing breaks the discipline, and refused at the first place that does; where memory is wanting
 -- nothing is said.

@@ -1,8 +1,8 @@
 -- What an item does to facts, without the item: where each fact after it comes from.
 use Rattle.std.specs.Prelude.{◌==◌, ℕ, Bool, ◌||◌, Option, Some, None, if◌then◌else◌}
 use Rattle.flat_code.specs.Recognized.{Sequence}
-use Rattle.flat_verify.specs.Items.{Item}
-use Rattle.flat_verify.specs.Facts.{Fact, Source, Setting, Here, sets, clean_of, may_end, held_if, gone_if, sequence_source}
+use Rattle.flat_discipline.specs.Items.{Item}
+use Rattle.flat_discipline.specs.Facts.{Fact, Source, Setting, Here, sets, clean_of, may_end, held_if, gone_if, sequence_source}
 
 pub data Effect : Type 0 where
   -- every fact holds after it as before

@@ -1,18 +1,9 @@
-pub mod Items
-pub mod Facts
-pub mod Chains
-pub mod Breaks
-pub mod Discipline
-pub mod Closed
-pub mod Derivations
-pub mod Examples
-pub mod Laws
-pub mod Comes
 pub mod Effects
 pub mod Links
 pub mod Reach
 pub mod Sheets
 pub mod Verdict
+pub mod Marked
 pub mod Told
 pub mod Views
 pub mod SheetViews
@@ -20,4 +11,3 @@ pub mod Scenes
 pub mod Outline
 pub mod Places
 pub mod Answer
-pub mod Safe

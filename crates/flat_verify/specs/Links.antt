@@ -2,11 +2,11 @@
 use Rattle.std.specs.Prelude.{◌≡◌, ◌⊎◌, ℕ, suc, ◌+◌, Bool, true, false, ◌&&◌, List, [], ◌∷◌, ◌++◌, Option, Some, None, nat_lt}
 use Rattle.flat_code.specs.Code.{FStep, FSteps}
 use Rattle.flat_code.specs.Recognized.{sequence_steps}
-use Rattle.flat_verify.specs.Items.{Item, Items, step_places, steps_places, places, all_places, first_place}
-use Rattle.flat_verify.specs.Facts.{Fact, Setting, Here, untold, branch, here_after}
+use Rattle.flat_discipline.specs.Items.{Item, Items, step_places, steps_places, places, all_places, first_place}
+use Rattle.flat_discipline.specs.Facts.{Fact, Setting, Here, untold, branch, here_after}
 use Rattle.flat_verify.specs.Effects.{Effect, effect}
-use Rattle.flat_verify.specs.Chains.{leading, leads}
-use Rattle.flat_verify.specs.Breaks.{fits, is_plain, address, reads, operands, pointer, pointer_use, shared}
+use Rattle.flat_discipline.specs.Chains.{leading, leads}
+use Rattle.flat_discipline.specs.Breaks.{fits, is_plain, address, reads, operands, pointer, pointer_use, shared}
 
 -- what holds of each
 abbrev pub OfEach : {A : Type 0} → (P : A → Type 0) → List A → Type 0
@@ -97,7 +97,8 @@ module _ (g : ℕ) (s : Setting) where
   abbrev mutual
     pub demands : (levels : ℕ) → Item → (p : ℕ) → List Demand
     demands levels (Item.Plain x) p = demand p p (fits s levels x && is_plain x) (read_facts (address x) (reads x)) ∷ []
-    demands levels (Item.Checks q) p = demand (p + pointer_use q) p true (Fact.Clean (pointer q) ∷ []) ∷ all_inside s (operands q) p levels (sequence_steps g q) p
+    demands levels (Item.Checks q) p =
+        demand (p + pointer_use q) p true (Fact.Clean (pointer q) ∷ []) ∷ all_inside s (operands q) p levels (sequence_steps g q) p
     demands levels (Item.If c x y) p =
         demand p p (nat_lt c s.values) (Fact.Own c ∷ []) ∷ (demands_all levels x (p + 1) ++ demands_all levels y (p + 1 + all_places g x))
     demands levels (Item.Block x) p = demands_all (suc levels) x (p + 1)

@@ -1,6 +1,6 @@
 -- The ranges that the links of a function ask for.
 use Rattle.std.specs.Prelude.{◌≡◌, true, List, Option, Some, None}
-use Rattle.flat_verify.specs.Facts.{Fact, Source}
+use Rattle.flat_discipline.specs.Facts.{Fact, Source}
 use Rattle.flat_verify.specs.Effects.{Effect}
 use Rattle.flat_verify.specs.Links.{Link}
 use Rattle.flat_verify.specs.Sheets.{Range, range_number, is_some}

@@ -1,6 +1,6 @@
 -- What the program's scenes stand for.
 use Rattle.flat_verify.specs.declared.scene.Scene.{Scene}
-use Rattle.flat_verify.specs.Facts.{Setting}
+use Rattle.flat_discipline.specs.Facts.{Setting}
 use Rattle.flat_verify.specs.Views.{setting_for}
 
 -- what is asked of the program around the function

@@ -9,4 +9,12 @@ abbrev pub range_of : RangeWritten → Range
 range_of r = record { pointer = r.pointer; count = r.count }
 
 abbrev pub sheet_of : SheetWritten → Sheet
-sheet_of s = record { values = s.values; params = s.params; ranges = map range_of s.ranges.items; places = s.places; base = s.base; links = map link_of s.links.items }
+sheet_of s = record {
+  values = s.values;
+  params = s.params;
+  ranges = map range_of s.ranges.items;
+  places = s.places;
+  base = s.base;
+  links =
+      map link_of s.links.items;
+}

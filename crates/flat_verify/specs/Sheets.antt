@@ -2,14 +2,15 @@
 --
 -- The number 0 stands for what is lost from the first; 1 + f says that the result of function f is tainted; and after
 -- these each function has a row of numbers for each of its places, with one number for each fact that is asked.
-use Rattle.std.specs.Prelude.{◌≡◌, ◌==◌, ◌<◌, ℕ, zero, suc, ◌+◌, ◌-◌, ◌*◌, Bool, true, false, not, ◌&&◌, List, [], ◌∷◌, ◌++◌, length, Option, Some, None, nat_lt, if◌then◌else◌, get_or, slice_get}
-use Rattle.flat_verify.specs.Facts.{Fact, Source}
+use Rattle.std.specs.Prelude.{◌≡◌, ◌==◌, ◌<◌, ℕ, zero, suc, ◌+◌, ◌-◌, ◌*◌, Bool, true, false, not, ◌&&◌}
+use Rattle.std.specs.Prelude.{List, [], ◌∷◌, ◌++◌, length, Option, Some, None, nat_lt, if◌then◌else◌, get_or, slice_get}
+use Rattle.flat_discipline.specs.Facts.{Fact, Source}
 use Rattle.flat_verify.specs.Effects.{Effect, source_by}
 use Rattle.size_table.specs.Blocks.{Block}
 use Rattle.flat_code.specs.Code.{FFunction}
-use Rattle.flat_verify.specs.Items.{items_of}
+use Rattle.flat_discipline.specs.Items.{items_of}
 use Rattle.flat_verify.specs.Links.{OfEach, Link, body_links}
-use Rattle.flat_verify.specs.Discipline.{setting}
+use Rattle.flat_discipline.specs.Discipline.{setting}
 use Rattle.flat_verify.specs.Reach.{Rule, rule, is_marked}
 
 -- the facts that the bytes of a range are spanned: the values of its first byte, and of their number
@@ -62,7 +63,8 @@ spanned r = Fact.Spanned r.pointer r.count
 -- the fact of a number
 abbrev pub fact_at : Sheet → ℕ → Fact
 fact_at s k =
-    if nat_lt k s.values then Fact.Clean k else (if nat_lt k (2 * s.values) then Fact.Own (k - s.values) else spanned (get_or s.ranges (k - 2 * s.values) record { pointer = 0; count = 0 }))
+    if nat_lt k s.values then Fact.Clean k
+    else (if nat_lt k (2 * s.values) then Fact.Own (k - s.values) else spanned (get_or s.ranges (k - 2 * s.values) record { pointer = 0; count = 0 }))
 
 -- ---- Numbers of facts at places
 
@@ -101,7 +103,8 @@ goes_rules functions s e a b (suc k) = goes_rules functions s e a b k ++ rule_if
 -- from the arguments to the parameters, from parameter k on
 abbrev pub passes_rules : (from to : Sheet) → (place k : ℕ) → List ℕ → List Rule
 passes_rules s t p k [] = []
-passes_rules s t p k (v ∷ vs) = rule_both (fact_cell s p (Fact.Clean v)) (none_unless (nat_lt k t.params) (fact_cell t 0 (Fact.Clean k))) ++ passes_rules s t p (suc k) vs
+passes_rules s t p k (v ∷ vs) = rule_both (fact_cell s p (Fact.Clean v)) (none_unless (nat_lt k t.params) (fact_cell t 0 (Fact.Clean k)))
+    ++ passes_rules s t p (suc k) vs
 
 abbrev pub passes_to : Sheet → Option Sheet → (place : ℕ) → List ℕ → List Rule
 passes_to s None p vs = []

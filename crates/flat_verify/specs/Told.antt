@@ -6,7 +6,7 @@ use Rattle.flat_verify.specs.declared.told.SetBy.{SetBy}
 use Rattle.flat_verify.specs.declared.told.SetBy.TheVariants as by
 use Rattle.flat_verify.specs.declared.told.Setting.{Setting}
 use Rattle.flat_verify.specs.declared.told.Told.{Told}
-use Rattle.flat_verify.specs.Facts.{Guard, Origin, Here}
+use Rattle.flat_discipline.specs.Facts.{Guard, Origin, Here}
 
 abbrev pub guard_written : Option Limit → Guard
 guard_written None = Guard.Free

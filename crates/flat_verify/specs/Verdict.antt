@@ -1,11 +1,11 @@
 -- The first demand that is not met: the answer of a verifier that has a table.
 use Rattle.std.specs.Prelude.{◌<◌, ℕ, Bool, false, not, ◌||◌, List, [], ◌∷◌, Option, Some, None, nat_lt, if◌then◌else◌}
 use Rattle.flat_code.specs.Code.{FFunction}
-use Rattle.flat_verify.specs.Items.{items_of}
-use Rattle.flat_verify.specs.Facts.{Fact, Setting}
-use Rattle.flat_verify.specs.Closed.{Known}
+use Rattle.flat_discipline.specs.Items.{items_of}
+use Rattle.flat_discipline.specs.Facts.{Fact, Setting}
+use Rattle.flat_discipline.specs.Closed.{Known}
 use Rattle.flat_verify.specs.Links.{Demand, demand, demands_all}
-use Rattle.flat_verify.specs.Discipline.{function_fits}
+use Rattle.flat_discipline.specs.Discipline.{function_fits}
 
 -- the demands of a function: that of what it is as a whole, and those of its steps
 abbrev pub function_demands : (g : ℕ) → Setting → (main number : ℕ) → FFunction → List Demand

@@ -15,10 +15,10 @@ use Rattle.flat_verify.specs.declared.facts.Link.TheVariants as link
 use Rattle.flat_verify.specs.declared.facts.Demand.{Demand as DemandWritten}
 use Rattle.flat_verify.specs.declared.facts.GlobalBlock.{GlobalBlock}
 use Rattle.flat_verify.specs.declared.layout.Layout.{Layout}
-use Rattle.flat_verify.specs.Facts.{Fact, Source, Setting}
+use Rattle.flat_discipline.specs.Facts.{Fact, Source, Setting}
 use Rattle.flat_verify.specs.Effects.{Effect}
 use Rattle.flat_verify.specs.Links.{Link, Demand, demand}
-use Rattle.flat_verify.specs.Discipline.{setting_in}
+use Rattle.flat_discipline.specs.Discipline.{setting_in}
 
 abbrev pub fact_of : FactWritten → Fact
 fact_of (fact.Clean v) = Fact.Clean v

@@ -2,8 +2,8 @@
 ghost use Rattle.std.specs.Prelude.{◌≡◌, ◌≤◌, ◌<◌, ◌+◌, ◌==◌, ◌||◌, ◌&&◌, map};
 ghost use Rattle.size_table.specs.Blocks.{end_of};
 ghost use Rattle.flat_code.specs.CodeViews.{step_of};
-ghost use Rattle.flat_verify.specs.Facts.{lies_in, held_if, reach_past, is_masked, element, sum_of, clean_of};
-ghost use Rattle.flat_verify.specs.Facts.Source.{Gone};
+ghost use Rattle.flat_discipline.specs.Facts.{lies_in, held_if, reach_past, is_masked, element, sum_of, clean_of};
+ghost use Rattle.flat_discipline.specs.Facts.Source.{Gone};
 ghost use Rattle.flat_verify.specs.Told.{here_of, guard_written, origin_written};
 ghost use Rattle.flat_verify.specs.Views.{setting_for, source_of, block_of, AreSmall};
 

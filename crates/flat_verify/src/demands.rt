@@ -1,9 +1,9 @@
 //! What the steps of a function want to be known.
 ghost use Rattle.std.specs.Prelude.{◌≡◌, ◌+◌, ◌++◌, map, IfOk, OnOk};
 ghost use Rattle.flat_code.specs.CodeViews.{step_of, steps_of};
-ghost use Rattle.flat_verify.specs.Items.{step_places, steps_places};
-ghost use Rattle.flat_verify.specs.Facts.{is_among};
-ghost use Rattle.flat_verify.specs.Breaks.{address, reads, shared};
+ghost use Rattle.flat_discipline.specs.Items.{step_places, steps_places};
+ghost use Rattle.flat_discipline.specs.Facts.{is_among};
+ghost use Rattle.flat_discipline.specs.Breaks.{address, reads, shared};
 ghost use Rattle.flat_verify.specs.Links.{own_all, read_facts};
 ghost use Rattle.flat_verify.specs.Views.{fact_of};
 

@@ -1,13 +1,13 @@
 //! The ways on which facts go in a function, in the order of its items.
 ghost use Rattle.std.specs.Prelude.{◌≡◌, ◌<◌, ◌+◌, ◌∷◌, [], ◌++◌, ℕ, map, drop, length, IfOk, OnOk};
 ghost use Rattle.flat_code.specs.CodeViews.{step_of, steps_of};
-ghost use Rattle.flat_verify.specs.Items.{item_of, items_of, items_from, first_place};
-ghost use Rattle.flat_verify.specs.Items.Item.{Plain};
-ghost use Rattle.flat_verify.specs.Facts.{untold, here_after};
+ghost use Rattle.flat_discipline.specs.Items.{item_of, items_of, items_from, first_place};
+ghost use Rattle.flat_discipline.specs.Items.Item.{Plain};
+ghost use Rattle.flat_discipline.specs.Facts.{untold, here_after};
 ghost use Rattle.flat_verify.specs.Effects.{effect};
 ghost use Rattle.flat_verify.specs.Effects.Effect.{Keeps};
-ghost use Rattle.flat_verify.specs.Chains.{leading, leads};
-ghost use Rattle.flat_verify.specs.Chains as chain;
+ghost use Rattle.flat_discipline.specs.Chains.{leading, leads};
+ghost use Rattle.flat_discipline.specs.Chains as chain;
 ghost use Rattle.flat_verify.specs.Links.{goes, hands_out, links_all};
 ghost use Rattle.flat_verify.specs.Links as link;
 ghost use Rattle.flat_verify.specs.Links.Link.{Goes};
@@ -133,7 +133,8 @@ fn push_plain(
     links: &mut Vec<Link>,
 ) -> Result<(), NoMemory>
     requires { AreSmall scene.now.globals.now }
-    ensures { OnOk result (map link_of links.new.items ≡ map link_of links.old.items ++ link.links scene.now.exponent (setting_of scene.now) (here_of told.now) (Plain (step_of step.now)) place after exits.now) }
+    ensures { OnOk result (map link_of links.new.items ≡ map link_of links.old.items
+        ++ link.links scene.now.exponent (setting_of scene.now) (here_of told.now) (Plain (step_of step.now)) place after exits.now) }
 {
     let effect = step_effect(scene, told, step);
     push_goes(effect, place, next_of(step, after, exits), links)?;
@@ -204,7 +205,7 @@ fn tell_past(alloc: Global, told: &mut Told, step: &FlatStep) -> Result<(), NoMe
 
 // The links of a step outside of sequences, with those of the steps in it.
 #[cycle(items)]
-#[tactic(auto, using(flat_code::proofs::CodeViewed::flat_views, crate::proofs::Sized::item_places, crate::proofs::Walked::body_size))]
+#[tactic(auto, using(flat_code::proofs::CodeViewed::flat_views, crate::proofs::Sized::item_places, flat_discipline::proofs::Walked::body_size))]
 fn push_item(
     alloc: Global,
     scene: &Scene,
@@ -216,7 +217,8 @@ fn push_item(
     links: &mut Vec<Link>,
 ) -> Result<(), NoMemory>
     requires { AreSmall scene.now.globals.now }
-    ensures { OnOk result (map link_of links.new.items ≡ map link_of links.old.items ++ link.links scene.now.exponent (setting_of scene.now) (here_of told.now) (item_of scene.now.exponent (step_of step.now)) place after exits.now) }
+    ensures { OnOk result (map link_of links.new.items ≡ map link_of links.old.items
+        ++ link.links scene.now.exponent (setting_of scene.now) (here_of told.now) (item_of scene.now.exponent (step_of step.now)) place after exits.now) }
 {
     match step {
         FlatStep::If { cond, yes, no } => {
@@ -276,7 +278,9 @@ fn push_body(
     links: &mut Vec<Link>,
 ) -> Result<(), NoMemory>
     requires { AreSmall scene.now.globals.now }
-    ensures { OnOk result (map link_of links.new.items ≡ map link_of links.old.items ++ (Goes Keeps place (first_place (items_of scene.now.exponent (steps_of body.now)) (place + 1) after) ∷ links_all scene.now.exponent (setting_of scene.now) untold (items_of scene.now.exponent (steps_of body.now)) (place + 1) after exits.now)) }
+    ensures { OnOk result (map link_of links.new.items ≡ map link_of links.old.items
+        ++ (Goes Keeps place (first_place (items_of scene.now.exponent (steps_of body.now)) (place + 1) after)
+        ∷ links_all scene.now.exponent (setting_of scene.now) untold (items_of scene.now.exponent (steps_of body.now)) (place + 1) after exits.now)) }
 {
     let first = places_sum(place, 1)?;
     let to = entry_of(body, first, after);
@@ -300,7 +304,8 @@ pub(crate) fn push_items(
     links: &mut Vec<Link>,
 ) -> Result<(), NoMemory>
     requires { AreSmall scene.now.globals.now }
-    ensures { OnOk result (map link_of links.new.items ≡ map link_of links.old.items ++ links_all scene.now.exponent (setting_of scene.now) (here_of told) (items_of scene.now.exponent (steps_of steps.now)) place after exits.now) }
+    ensures { OnOk result (map link_of links.new.items ≡ map link_of links.old.items
+        ++ links_all scene.now.exponent (setting_of scene.now) (here_of told) (items_of scene.now.exponent (steps_of steps.now)) place after exits.now) }
 {
     let mut told = told;
     let mut skip: usize = 0;

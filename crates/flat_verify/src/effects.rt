@@ -3,11 +3,11 @@ ghost use Rattle.std.specs.Prelude.{◌≡◌, ◌≤◌, ◌∷◌, [], IfOk, �
 ghost use Rattle.flat_code.specs.CodeViews.{steps_of};
 ghost use Rattle.flat_code.specs.SequenceViews.{sequence_of};
 ghost use Rattle.flat_code.specs.Recognized.{sequence_steps, count};
-ghost use Rattle.flat_verify.specs.Items.{steps_places};
-ghost use Rattle.flat_verify.specs.Facts.{is_among, temporaries, gives, spans, may_set, sequence_source};
+ghost use Rattle.flat_discipline.specs.Items.{steps_places};
+ghost use Rattle.flat_discipline.specs.Facts.{is_among, temporaries, gives, spans, may_set, sequence_source};
 ghost use Rattle.flat_verify.specs.Effects.{source_by};
 ghost use Rattle.flat_verify.specs.Effects.Effect.{Sets};
-ghost use Rattle.flat_verify.specs.Breaks.{operands, pointer, pointer_use};
+ghost use Rattle.flat_discipline.specs.Breaks.{operands, pointer, pointer_use};
 ghost use Rattle.flat_verify.specs.Views.{fact_of, source_of, effect_of};
 
 use crate::facts::{Effect, Fact, Source};

@@ -90,7 +90,8 @@ fn range_in(link: &Link) -> Option<Range>
 // The range stands among the ranges, and those that stood there do.
 fn push_range(ranges: &mut Vec<Range>, range: Range) -> Result<(), NoMemory>
     ensures there { OnOk result (is_some (range_number (map range_of ranges.new.items) range.pointer range.count) ≡ true) }
-    ensures kept { OnOk result ((a n : ℕ) → is_some (range_number (map range_of ranges.old.items) a n) ≡ true → is_some (range_number (map range_of ranges.new.items) a n) ≡ true) }
+    ensures kept { OnOk result ((a n : ℕ) → is_some (range_number (map range_of ranges.old.items) a n) ≡ true
+        → is_some (range_number (map range_of ranges.new.items) a n) ≡ true) }
 {
     match number_of_range(ranges, range.pointer, range.count) {
         Some(_) => Ok(()),
@@ -104,7 +105,8 @@ fn push_range(ranges: &mut Vec<Range>, range: Range) -> Result<(), NoMemory>
 // The range that a link asks for, if it does, stands among the ranges.
 fn push_range_in(ranges: &mut Vec<Range>, link: &Link) -> Result<(), NoMemory>
     ensures there { OnOk result (HasRange (map range_of ranges.new.items) (link_of link.now)) }
-    ensures kept { OnOk result ((a n : ℕ) → is_some (range_number (map range_of ranges.old.items) a n) ≡ true → is_some (range_number (map range_of ranges.new.items) a n) ≡ true) }
+    ensures kept { OnOk result ((a n : ℕ) → is_some (range_number (map range_of ranges.old.items) a n) ≡ true
+        → is_some (range_number (map range_of ranges.new.items) a n) ≡ true) }
 {
     match range_in(link) {
         Some(range) => push_range(ranges, range),

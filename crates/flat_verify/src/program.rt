@@ -2,9 +2,9 @@
 ghost use Rattle.std.specs.Prelude.{◌≡◌, ◌≤◌, ◌<◌, ◌+◌, ◌∷◌, Some, suc, ℕ, map, length, slice_get, IfOk};
 ghost use Rattle.flat_code.specs.Code.{FFunction};
 ghost use Rattle.flat_code.specs.CodeViews.{function_of, steps_of};
-ghost use Rattle.flat_verify.specs.Discipline.{function_fits, setting_in};
+ghost use Rattle.flat_discipline.specs.Discipline.{function_fits, setting_in};
 ghost use Rattle.flat_verify.specs.Links.{OfEach, body_links};
-ghost use Rattle.flat_verify.specs.Items.{items_of};
+ghost use Rattle.flat_discipline.specs.Items.{items_of};
 ghost use Rattle.flat_verify.specs.Sheets.{Stands, IsSheet, AreSheets, InPlaces, width};
 ghost use Rattle.flat_verify.specs.SheetViews.{sheet_of};
 ghost use Rattle.flat_verify.specs.Scenes.{setting_of};
@@ -24,7 +24,8 @@ use std::alloc::Global;
 // The links of a function's body.
 fn body_links(alloc: Global, scene: &Scene) -> Result<Vec<Link>, NoMemory>
     requires { AreSmall scene.now.globals.now }
-    ensures { IfOk result (λ v. map link_of v.items ≡ body_links scene.now.exponent (setting_of scene.now) (items_of scene.now.exponent (steps_of scene.now.function.now.body))) }
+    ensures { IfOk result (λ v. map link_of v.items
+        ≡ body_links scene.now.exponent (setting_of scene.now) (items_of scene.now.exponent (steps_of scene.now.function.now.body))) }
 {
     let body = scene.function.body.as_slice();
     let after = places_of_all(body)?;
@@ -47,7 +48,8 @@ fn sheet_at(
     requires most { g ≤ 24 }
     requires small { AreSmall globals.now }
     requires function { f < length functions.now }
-    ensures is { IfOk result (λ s. (fn : FFunction) → slice_get (map function_of functions.now) f ≡ Some fn → IsSheet g (map block_of globals.now) (map function_of functions.now) f fn (sheet_of s)) }
+    ensures is { IfOk result (λ s. (fn : FFunction) → slice_get (map function_of functions.now) f ≡ Some fn
+        → IsSheet g (map block_of globals.now) (map function_of functions.now) f fn (sheet_of s)) }
     ensures base { IfOk result (λ s. s.base ≡ base) }
 {
     let function = &functions[f];
@@ -86,7 +88,8 @@ pub(crate) fn sheets_of(
     requires least { 1 ≤ g }
     requires most { g ≤ 24 }
     requires small { AreSmall globals.now }
-    ensures are { IfOk result (λ r. AreSheets g (map block_of globals.now) (map function_of functions.now) 0 (map function_of functions.now) (map sheet_of r.each.items)) }
+    ensures are { IfOk result (λ r. AreSheets g (map block_of globals.now) (map function_of functions.now) 0 (map function_of functions.now)
+        (map sheet_of r.each.items)) }
     ensures stands { IfOk result (λ r. Stands (suc (length (map sheet_of r.each.items))) (map sheet_of r.each.items) r.total) }
 {
     let mut each = Vec::new(alloc);
@@ -117,7 +120,8 @@ pub(crate) fn demands_of(
     main: u32,
     number: u32,
 ) -> Result<Vec<Demand>, NoMemory>
-    ensures { IfOk result (λ v. map demand_of v.items ≡ function_demands scene.now.exponent (setting_of scene.now) main number (function_of scene.now.function.now)) }
+    ensures { IfOk result (λ v. map demand_of v.items
+        ≡ function_demands scene.now.exponent (setting_of scene.now) main number (function_of scene.now.function.now)) }
 {
     let mut demands = Vec::new(alloc);
     demands.push(Demand {

@@ -1,10 +1,12 @@
 //! The rules by which the facts of a program are lost, and what they reach.
-ghost use Rattle.std.specs.Prelude.{◌≡◌, ◌+◌, ◌<◌, ◌≤◌, ◌++◌, ◌∷◌, [], ℕ, Some, None, true, map, length, slice_get, nat_lt, IfOk, OnOk};
-ghost use Rattle.flat_verify.specs.Facts.Fact.{Clean};
+ghost use Rattle.std.specs.Prelude.{◌≡◌, ◌+◌, ◌<◌, ◌≤◌, ◌++◌, ◌∷◌, []};
+ghost use Rattle.std.specs.Prelude.{ℕ, Some, None, true, map, length, slice_get, nat_lt, IfOk, OnOk};
+ghost use Rattle.flat_discipline.specs.Facts.Fact.{Clean};
 ghost use Rattle.flat_verify.specs.Views.{effect_of, link_of};
 ghost use Rattle.flat_verify.specs.SheetViews.{sheet_of};
 ghost use Rattle.flat_verify.specs.Reach.{rule, rules_of, AreBelow, Reached, is_marked};
-ghost use Rattle.flat_verify.specs.Sheets.{width, none_unless, fact_cell, rule_if, rule_both, goes_rules, passes_rules, passes_to, link_rules, links_rules, start_rules, sheet_rules, rules_after, all_rules};
+ghost use Rattle.flat_verify.specs.Sheets.{width, none_unless, fact_cell, rule_if, rule_both, goes_rules, passes_rules, passes_to};
+ghost use Rattle.flat_verify.specs.Sheets.{link_rules, links_rules, start_rules, sheet_rules, rules_after, all_rules};
 
 use crate::effects::source_after;
 use crate::facts::{Effect, Fact, Link};
@@ -85,7 +87,8 @@ fn push_goes(
     to: u32,
 ) -> Result<(), NoMemory>
     requires { AreBelow size stretches.old.items }
-    ensures rules { OnOk result (rules_of stretches.new.items ≡ rules_of stretches.old.items ++ goes_rules functions (sheet_of sheet.now) (effect_of effect) from to (width (sheet_of sheet.now))) }
+    ensures rules { OnOk result (rules_of stretches.new.items ≡ rules_of stretches.old.items
+        ++ goes_rules functions (sheet_of sheet.now) (effect_of effect) from to (width (sheet_of sheet.now))) }
     ensures below { OnOk result (AreBelow size stretches.new.items) }
 {
     for k in 0..sheet.width() {
@@ -119,7 +122,8 @@ fn push_passes(
     args: &[u32],
 ) -> Result<(), NoMemory>
     requires { AreBelow size stretches.old.items }
-    ensures rules { OnOk result (rules_of stretches.new.items ≡ rules_of stretches.old.items ++ passes_rules (sheet_of from.now) (sheet_of to.now) place 0 args.now) }
+    ensures rules { OnOk result (rules_of stretches.new.items ≡ rules_of stretches.old.items
+        ++ passes_rules (sheet_of from.now) (sheet_of to.now) place 0 args.now) }
     ensures below { OnOk result (AreBelow size stretches.new.items) }
 {
     for k in 0..args.len() {
@@ -144,7 +148,8 @@ fn push_passes_to(
     args: &[u32],
 ) -> Result<(), NoMemory>
     requires { AreBelow size stretches.old.items }
-    ensures rules { OnOk result (rules_of stretches.new.items ≡ rules_of stretches.old.items ++ passes_to (sheet_of from.now) (slice_get (map sheet_of sheets.now) function) place args.now) }
+    ensures rules { OnOk result (rules_of stretches.new.items ≡ rules_of stretches.old.items
+        ++ passes_to (sheet_of from.now) (slice_get (map sheet_of sheets.now) function) place args.now) }
     ensures below { OnOk result (AreBelow size stretches.new.items) }
 {
     let g = function as usize;
@@ -164,7 +169,8 @@ fn push_link(
 ) -> Result<(), NoMemory>
     requires below { AreBelow size stretches.old.items }
     requires function { f < length sheets.now }
-    ensures rules { OnOk result (rules_of stretches.new.items ≡ rules_of stretches.old.items ++ link_rules (map sheet_of sheets.now) f (sheet_of sheet.now) (link_of link.now)) }
+    ensures rules { OnOk result (rules_of stretches.new.items ≡ rules_of stretches.old.items
+        ++ link_rules (map sheet_of sheets.now) f (sheet_of sheet.now) (link_of link.now)) }
     ensures below { OnOk result (AreBelow size stretches.new.items) }
 {
     match link {
@@ -193,7 +199,8 @@ fn push_sheet(
 ) -> Result<(), NoMemory>
     requires below { AreBelow size stretches.old.items }
     requires function { f < length sheets.now }
-    ensures rules { OnOk result (rules_of stretches.new.items ≡ rules_of stretches.old.items ++ sheet_rules (map sheet_of sheets.now) f (sheet_of sheet.now)) }
+    ensures rules { OnOk result (rules_of stretches.new.items ≡ rules_of stretches.old.items
+        ++ sheet_rules (map sheet_of sheets.now) f (sheet_of sheet.now)) }
     ensures below { OnOk result (AreBelow size stretches.new.items) }
 {
     push_starts(stretches, size, sheet)?;
@@ -203,7 +210,8 @@ fn push_sheet(
 // At a function's start no span stands.
 fn push_starts(stretches: &mut Vec<Stretch>, size: usize, sheet: &Sheet) -> Result<(), NoMemory>
     requires { AreBelow size stretches.old.items }
-    ensures rules { OnOk result (rules_of stretches.new.items ≡ rules_of stretches.old.items ++ start_rules (sheet_of sheet.now) (length (sheet_of sheet.now).ranges)) }
+    ensures rules { OnOk result (rules_of stretches.new.items ≡ rules_of stretches.old.items
+        ++ start_rules (sheet_of sheet.now) (length (sheet_of sheet.now).ranges)) }
     ensures below { OnOk result (AreBelow size stretches.new.items) }
 {
     let values = 2 * (sheet.values as usize);
@@ -224,7 +232,8 @@ fn push_links(
 ) -> Result<(), NoMemory>
     requires below { AreBelow size stretches.old.items }
     requires function { f < length sheets.now }
-    ensures rules { OnOk result (rules_of stretches.new.items ≡ rules_of stretches.old.items ++ links_rules (map sheet_of sheets.now) f (sheet_of sheet.now) (sheet_of sheet.now).links) }
+    ensures rules { OnOk result (rules_of stretches.new.items ≡ rules_of stretches.old.items
+        ++ links_rules (map sheet_of sheets.now) f (sheet_of sheet.now) (sheet_of sheet.now).links) }
     ensures below { OnOk result (AreBelow size stretches.new.items) }
 {
     for link in &sheet.links {

@@ -1,9 +1,9 @@
 //! What a step is by itself: what it sets and reads, and whether its numbers are in range.
 ghost use Rattle.std.specs.Prelude.{◌≡◌, ◌∷◌, [], map, slice_get, IfOk, List};
 ghost use Rattle.flat_code.specs.CodeViews.{step_of, function_of};
-ghost use Rattle.flat_verify.specs.Facts.{sets, may_end};
-ghost use Rattle.flat_verify.specs.Breaks.{all_below, is_count, fits, is_plain, address, reads};
-ghost use Rattle.flat_verify.specs.Discipline.{params_in};
+ghost use Rattle.flat_discipline.specs.Facts.{sets, may_end};
+ghost use Rattle.flat_discipline.specs.Breaks.{all_below, is_count, fits, is_plain, address, reads};
+ghost use Rattle.flat_discipline.specs.Discipline.{params_in};
 ghost use Rattle.flat_verify.specs.Views.{setting_for};
 ghost use Rattle.flat_verify.specs.declared.facts.GlobalBlock.{GlobalBlock as Blocks};
 

@@ -1,7 +1,7 @@
 //! What a list of steps tells by itself: what guards it, what a value was just set by.
 ghost use Rattle.std.specs.Prelude.{◌≡◌, ◌==◌, ◌&&◌, not, ℕ, OnOk, if◌then◌else◌};
 ghost use Rattle.flat_code.specs.CodeViews.{step_of};
-ghost use Rattle.flat_verify.specs.Facts.{tell, untold, branch, origin_of, masked_if, guard_after, test_if, test_after};
+ghost use Rattle.flat_discipline.specs.Facts.{tell, untold, branch, origin_of, masked_if, guard_after, test_if, test_after};
 ghost use Rattle.flat_verify.specs.Told.{here_of, origin_at, origin_written, guard_written, test_written};
 
 use crate::steps::value_set;

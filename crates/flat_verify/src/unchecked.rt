@@ -3,8 +3,8 @@ ghost use Rattle.std.specs.Prelude.{◌≡◌, ◌≤◌, ◌<◌, Some, None, s
 ghost use Rattle.std.specs.Option.{option_map};
 ghost use Rattle.flat_code.specs.Code.{FFunction};
 ghost use Rattle.flat_code.specs.CodeViews.{function_of, code_of};
-ghost use Rattle.flat_verify.specs.Discipline.{setting, FirstBad, FirstBreak};
-ghost use Rattle.flat_verify.specs.Laws.{BreaksByTable};
+ghost use Rattle.flat_discipline.specs.Discipline.{setting, FirstBad, FirstBreak};
+ghost use Rattle.flat_discipline.specs.Laws.{BreaksByTable};
 ghost use Rattle.flat_verify.specs.Places.{place_of};
 ghost use Rattle.flat_verify.specs.Sheets.{known, Stands, AreSheets};
 ghost use Rattle.flat_verify.specs.SheetViews.{sheet_of};
@@ -42,7 +42,9 @@ fn first_in(
     requires function { f < length code.now.functions }
     requires sheet { f < length sheets.now }
     ensures number { IfOk result (λ o. f < 4294967296) }
-    ensures first { IfOk result (λ o. (fn : FFunction) → slice_get (map function_of code.now.functions) f ≡ Some fn → o ≡ first_unmet (known (map sheet_of sheets.now) marks.now f) None (function_demands g (setting g (map block_of globals.now) (map function_of code.now.functions) f) code.now.main f fn)) }
+    ensures first { IfOk result (λ o. (fn : FFunction) → slice_get (map function_of code.now.functions) f ≡ Some fn
+        → o ≡ first_unmet (known (map sheet_of sheets.now) marks.now f) None
+        (function_demands g (setting g (map block_of globals.now) (map function_of code.now.functions) f) code.now.main f fn)) }
 {
     if f > 0xFFFF_FFFF {
         return Err(NoMemory);
@@ -71,7 +73,8 @@ fn first_by_marks(
     requires least { 1 ≤ g }
     requires most { g ≤ 24 }
     requires sheets { length sheets.now ≡ length code.now.functions }
-    ensures { IfOk result (λ o. FirstBad (BreaksByTable g (map block_of globals.now) (code_of code.now) (known (map sheet_of sheets.now) marks.now)) (option_map place_of o)) }
+    ensures { IfOk result (λ o. FirstBad (BreaksByTable g (map block_of globals.now) (code_of code.now) (known (map sheet_of sheets.now) marks.now))
+        (option_map place_of o)) }
 {
     let count = code.functions.len();
     for f in 0..count {
@@ -103,7 +106,8 @@ fn first_of_sheets(
 ) -> Result<Option<Place>, NoMemory>
     requires least { 1 ≤ g }
     requires most { g ≤ 24 }
-    requires are { AreSheets g (map block_of globals.now) (map function_of code.now.functions) 0 (map function_of code.now.functions) (map sheet_of sheets.now) }
+    requires are { AreSheets g (map block_of globals.now) (map function_of code.now.functions) 0 (map function_of code.now.functions)
+        (map sheet_of sheets.now) }
     requires stands { Stands (suc (length (map sheet_of sheets.now))) (map sheet_of sheets.now) total }
     ensures { IfOk result (λ o. FirstBreak g (map block_of globals.now) (code_of code.now) (option_map place_of o)) }
 {

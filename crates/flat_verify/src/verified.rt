@@ -1,12 +1,12 @@
 //! Code that keeps the discipline.
 ghost use Rattle.std.specs.Prelude.{◌≤◌};
 ghost use Rattle.flat_code.specs.CodeViews.{code_of};
-ghost use Rattle.flat_verify.specs.Discipline.{IsDisciplined};
+ghost use Rattle.flat_discipline.specs.Discipline.{IsDisciplined};
 ghost use Rattle.flat_verify.specs.Views.{blocks_of};
 
-use crate::laws::disciplined_is_safe;
 use crate::layout::Layout;
 use flat_code::code::Flat;
+use flat_discipline::laws::disciplined_is_safe;
 
 /// Flat code that keeps the discipline, where its global objects lie as the layout says and slots have 2^`exponent` bytes.
 /// Whoever has one knows that, so it is safe in every run.
@@ -21,7 +21,7 @@ pub struct Verified<'a> {
 }
 
 impl<'a> Verified<'a> {
-    ghost use Rattle.flat_verify.specs.Safe.{IsSafeAlways};
+    ghost use Rattle.flat_discipline.specs.Safe.{IsSafeAlways};
 
     /// It is safe in every run, whatever it reads and whatever its memory holds: freed and forged pointers too.
     pub fn is_safe(&self)

@@ -2,16 +2,16 @@
 ghost use Rattle.std.specs.Prelude.{◌≡◌, ◌≤◌, IfOk};
 ghost use Rattle.flat_code.specs.CodeViews.{code_of};
 ghost use Rattle.flat_verify.specs.Answer.{Answers, IsNoRefusal};
-ghost use Rattle.flat_verify.specs.Discipline.{IsDisciplined};
-ghost use Rattle.flat_verify.specs.Safe.{IsSafeAlways};
+ghost use Rattle.flat_discipline.specs.Discipline.{IsDisciplined};
+ghost use Rattle.flat_discipline.specs.Safe.{IsSafeAlways};
 ghost use Rattle.flat_verify.specs.Views.{blocks_of, AreSmall};
 
 use crate::error::VerifyError;
-use crate::laws::disciplined_is_safe;
 use crate::layout::Layout;
 use crate::unchecked::first_break;
 use crate::verified::Verified;
 use flat_code::code::Flat;
+use flat_discipline::laws::disciplined_is_safe;
 use std::alloc::Global;
 
 /// The code as verified, if it keeps the discipline where its global objects lie so and slots have 2^`g` bytes; else the first

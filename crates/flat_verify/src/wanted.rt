@@ -3,9 +3,9 @@ ghost use Rattle.std.specs.Prelude.{◌≡◌, ◌&&◌, Some, ◌++◌, map, If
 ghost use Rattle.flat_code.specs.CodeViews.{step_of, steps_of};
 ghost use Rattle.flat_code.specs.Recognized.{further};
 ghost use Rattle.flat_code.specs.SequenceViews.{sequence_of};
-ghost use Rattle.flat_verify.specs.Items.{item_of, items_of};
-ghost use Rattle.flat_verify.specs.Items.Item.{Plain, Checks};
-ghost use Rattle.flat_verify.specs.Breaks.{fits, is_plain, address, reads};
+ghost use Rattle.flat_discipline.specs.Items.{item_of, items_of};
+ghost use Rattle.flat_discipline.specs.Items.Item.{Plain, Checks};
+ghost use Rattle.flat_discipline.specs.Breaks.{fits, is_plain, address, reads};
 ghost use Rattle.flat_verify.specs.Links.{demand, read_facts, inside, inside_demands, all_inside, demands_all};
 ghost use Rattle.flat_verify.specs.Links as link;
 ghost use Rattle.flat_verify.specs.Scenes.{setting_of};
@@ -63,7 +63,8 @@ fn push_inside(
     place: u32,
     demands: &mut Vec<Demand>,
 ) -> Result<(), NoMemory>
-    ensures { OnOk result (map demand_of demands.new.items ≡ map demand_of demands.old.items ++ inside_demands (setting_of scene.now) given.now.operands.now given.now.at levels (step_of step.now) place) }
+    ensures { OnOk result (map demand_of demands.new.items ≡ map demand_of demands.old.items
+        ++ inside_demands (setting_of scene.now) given.now.operands.now given.now.at levels (step_of step.now) place) }
 {
     match step {
         FlatStep::If { cond: _, yes, no } => {
@@ -114,7 +115,8 @@ fn push_all_inside(
     place: u32,
     demands: &mut Vec<Demand>,
 ) -> Result<(), NoMemory>
-    ensures { OnOk result (map demand_of demands.new.items ≡ map demand_of demands.old.items ++ all_inside (setting_of scene.now) given.now.operands.now given.now.at levels (steps_of steps.now) place) }
+    ensures { OnOk result (map demand_of demands.new.items ≡ map demand_of demands.old.items
+        ++ all_inside (setting_of scene.now) given.now.operands.now given.now.at levels (steps_of steps.now) place) }
 {
     let mut next = place;
     for step in steps {
@@ -134,7 +136,8 @@ fn push_sequence(
     place: u32,
     demands: &mut Vec<Demand>,
 ) -> Result<(), NoMemory>
-    ensures { OnOk result (map demand_of demands.new.items ≡ map demand_of demands.old.items ++ link.demands scene.now.exponent (setting_of scene.now) levels (Checks (sequence_of sequence)) place) }
+    ensures { OnOk result (map demand_of demands.new.items ≡ map demand_of demands.old.items
+        ++ link.demands scene.now.exponent (setting_of scene.now) levels (Checks (sequence_of sequence)) place) }
 {
     let (value, further) = pointer_of(sequence);
     let used = places_sum(place, further)?;
@@ -163,7 +166,8 @@ fn plain_demand(
     step: &FlatStep,
     place: u32,
 ) -> Result<Demand, NoMemory>
-    ensures { IfOk result (λ d. demand_of d ≡ demand place place (fits (setting_of scene.now) levels (step_of step.now) && is_plain (step_of step.now)) (read_facts (address (step_of step.now)) (reads (step_of step.now)))) }
+    ensures { IfOk result (λ d. demand_of d ≡ demand place place (fits (setting_of scene.now) levels (step_of step.now) && is_plain (step_of step.now))
+        (read_facts (address (step_of step.now)) (reads (step_of step.now)))) }
 {
     let facts = facts_wanted(alloc, step)?;
     let fits = numbers_fit(scene.functions, scene.function, levels, step) && is_plain_step(step);
@@ -184,7 +188,8 @@ fn push_plain(
     place: u32,
     demands: &mut Vec<Demand>,
 ) -> Result<(), NoMemory>
-    ensures { OnOk result (map demand_of demands.new.items ≡ map demand_of demands.old.items ++ link.demands scene.now.exponent (setting_of scene.now) levels (Plain (step_of step.now)) place) }
+    ensures { OnOk result (map demand_of demands.new.items ≡ map demand_of demands.old.items
+        ++ link.demands scene.now.exponent (setting_of scene.now) levels (Plain (step_of step.now)) place) }
 {
     let demand = plain_demand(alloc, scene, levels, step, place)?;
     demands.push(demand)?;
@@ -193,7 +198,7 @@ fn push_plain(
 
 // The demands of a step outside of sequences, with those of the steps in it.
 #[cycle(items)]
-#[tactic(auto, using(flat_code::proofs::CodeViewed::flat_views, crate::proofs::Sized::item_places, crate::proofs::Walked::body_size))]
+#[tactic(auto, using(flat_code::proofs::CodeViewed::flat_views, crate::proofs::Sized::item_places, flat_discipline::proofs::Walked::body_size))]
 fn push_item(
     alloc: Global,
     scene: &Scene,
@@ -202,7 +207,8 @@ fn push_item(
     place: u32,
     demands: &mut Vec<Demand>,
 ) -> Result<(), NoMemory>
-    ensures { OnOk result (map demand_of demands.new.items ≡ map demand_of demands.old.items ++ link.demands scene.now.exponent (setting_of scene.now) levels (item_of scene.now.exponent (step_of step.now)) place) }
+    ensures { OnOk result (map demand_of demands.new.items ≡ map demand_of demands.old.items
+        ++ link.demands scene.now.exponent (setting_of scene.now) levels (item_of scene.now.exponent (step_of step.now)) place) }
 {
     match step {
         FlatStep::If { cond, yes, no } => {
@@ -256,7 +262,8 @@ pub(crate) fn push_items(
     place: u32,
     demands: &mut Vec<Demand>,
 ) -> Result<(), NoMemory>
-    ensures { OnOk result (map demand_of demands.new.items ≡ map demand_of demands.old.items ++ demands_all scene.now.exponent (setting_of scene.now) levels (items_of scene.now.exponent (steps_of steps.now)) place) }
+    ensures { OnOk result (map demand_of demands.new.items ≡ map demand_of demands.old.items
+        ++ demands_all scene.now.exponent (setting_of scene.now) levels (items_of scene.now.exponent (steps_of steps.now)) place) }
 {
     let mut skip: usize = 0;
     let mut next = place;

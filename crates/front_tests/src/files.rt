@@ -4,12 +4,12 @@ ghost use Rattle.std.specs.Prelude.{◌<◌, ◌^◌, length};
 
 use c_lexer::{LexError, lex};
 use c_parser::{ParseError, parse};
-use c_tree::syntax::{
-    BlockItem, Declarator, Expression, External, InitDeclarator, Initializer, Statement, Unit,
-};
 use c_words::operators::{AssignOperator, BinaryOperator, StepOperator, UnaryOperator};
 use std::alloc::{AllocError, Global};
 use std::test::Fail;
+use syntax_tree::syntax::{
+    BlockItem, Declarator, Expression, External, InitDeclarator, Initializer, Statement, Unit,
+};
 
 /// An expression without its parts.
 #[derive(Clone, Copy, Debug, PartialEq, Eq)]

@@ -1,15 +1,15 @@
 //! Each rule of the operators that takes memory, with ample memory. Which rule a file breaks is said by the laws of typing.
-use c_rules::assignments::assign;
-use c_rules::binary::{binary, comma, conditional};
-use c_rules::error::TypeError;
-use c_rules::places::{arrow, index};
-use c_rules::unary::{cast, measured_type, step_after, unary};
-use c_typed::typed_expr::{TypedExpr, TypedForm};
-use c_typed::types::Ty;
 use c_words::operators::{AssignOperator, BinaryOperator, StepOperator, UnaryOperator};
 use c_words::place::At;
 use std::alloc::Global;
 use std::test::Fail;
+use typed_tree::typed_expr::{TypedExpr, TypedForm};
+use typed_tree::types::Ty;
+use typing_operators::assignments::assign;
+use typing_operators::binary::{binary, comma, conditional};
+use typing_operators::error::TypeError;
+use typing_operators::places::{arrow, index};
+use typing_operators::unary::{cast, measured_type, step_after, unary};
 
 const AT: At = At { token: 3, line: 1 };
 

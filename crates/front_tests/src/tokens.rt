@@ -1,6 +1,6 @@
 //! Texts of C and their tokens. What each has to give is read from C11 6.4.
 use c_lexer::{LexError, TokenKind, lex};
-use c_words::words::{Punctuator, Reserved};
+use c_words::words::{Keyword, Punctuator};
 use std::alloc::Global;
 use std::test::Fail;
 
@@ -10,9 +10,9 @@ enum Seen<'a> {
     Name(&'a [u8]),
     Number(u32, bool),
     Character(u8),
-    Text(&'a [u8]),
-    Word(Reserved),
-    Mark(Punctuator),
+    StringLiteral(&'a [u8]),
+    Keyword(Keyword),
+    Punctuator(Punctuator),
 }
 
 fn shown(kind: &TokenKind) -> Seen<'_> {
@@ -20,9 +20,9 @@ fn shown(kind: &TokenKind) -> Seen<'_> {
         TokenKind::Name(name) => Seen::Name(name.as_slice()),
         TokenKind::Number { value, unsigned } => Seen::Number(*value, *unsigned),
         TokenKind::Character(value) => Seen::Character(*value),
-        TokenKind::Text(bytes) => Seen::Text(bytes.as_slice()),
-        TokenKind::Word(word) => Seen::Word(*word),
-        TokenKind::Mark(mark) => Seen::Mark(*mark),
+        TokenKind::StringLiteral(bytes) => Seen::StringLiteral(bytes.as_slice()),
+        TokenKind::Keyword(word) => Seen::Keyword(*word),
+        TokenKind::Punctuator(mark) => Seen::Punctuator(*mark),
     }
 }
 
@@ -49,33 +49,40 @@ fn is_told(alloc: Global, row: &Row<'_>) -> Result<bool, LexError> {
 const LAST: [Row<'static>; 41] = [
     (
         b"int main(void){return 42;}",
-        Seen::Mark(Punctuator::CloseBrace),
+        Seen::Punctuator(Punctuator::CloseBrace),
         25,
         1,
         1,
         10,
     ),
     (b"a_1 B2\n _x9", Seen::Name(b"_x9"), 8, 3, 2, 3),
-    (b"whiles while", Seen::Word(Reserved::While), 7, 5, 1, 2),
+    (b"whiles while", Seen::Keyword(Keyword::While), 7, 5, 1, 2),
     (
         b"_Static_assert",
-        Seen::Word(Reserved::StaticAssert),
+        Seen::Keyword(Keyword::StaticAssert),
         0,
         14,
         1,
         1,
     ),
-    (b"null NULL", Seen::Word(Reserved::Null), 5, 4, 1, 2),
-    (b"EOF", Seen::Word(Reserved::Eof), 0, 3, 1, 1),
+    (b"null NULL", Seen::Keyword(Keyword::Null), 5, 4, 1, 2),
+    (b"EOF", Seen::Keyword(Keyword::Eof), 0, 3, 1, 1),
     (b"a>>=b", Seen::Name(b"b"), 4, 1, 1, 3),
-    (b"a>>=", Seen::Mark(Punctuator::ShiftRightEqual), 1, 3, 1, 2),
+    (
+        b"a>>=",
+        Seen::Punctuator(Punctuator::ShiftRightEqual),
+        1,
+        3,
+        1,
+        2,
+    ),
     (b"x+++y", Seen::Name(b"y"), 4, 1, 1, 4),
-    (b"x+++", Seen::Mark(Punctuator::Plus), 3, 1, 1, 3),
+    (b"x+++", Seen::Punctuator(Punctuator::Plus), 3, 1, 1, 3),
     (b"p->q", Seen::Name(b"q"), 3, 1, 1, 3),
-    (b"p--", Seen::Mark(Punctuator::MinusMinus), 1, 2, 1, 2),
+    (b"p--", Seen::Punctuator(Punctuator::MinusMinus), 1, 2, 1, 2),
     (b"a.5", Seen::Number(5, false), 2, 1, 1, 3),
-    (b"/", Seen::Mark(Punctuator::Slash), 0, 1, 1, 1),
-    (b"/=", Seen::Mark(Punctuator::SlashEqual), 0, 2, 1, 1),
+    (b"/", Seen::Punctuator(Punctuator::Slash), 0, 1, 1, 1),
+    (b"/=", Seen::Punctuator(Punctuator::SlashEqual), 0, 2, 1, 1),
     (b"/* a\n * b\n **/ c", Seen::Name(b"c"), 15, 1, 3, 1),
     (b"/*/ */ d", Seen::Name(b"d"), 7, 1, 1, 1),
     (b"// a\ne//", Seen::Name(b"e"), 5, 1, 2, 1),
@@ -112,10 +119,10 @@ const LAST: [Row<'static>; 41] = [
     (b"'\\377'", Seen::Character(255), 0, 6, 1, 1),
     (b"'\\xff'", Seen::Character(255), 0, 6, 1, 1),
     (b"'\\x000fF'", Seen::Character(255), 0, 9, 1, 1),
-    (b"\"\"", Seen::Text(b""), 0, 2, 1, 1),
+    (b"\"\"", Seen::StringLiteral(b""), 0, 2, 1, 1),
     (
         b"\"\\n\\t\\r\\a\\b\\f\\v\\\\'\\\"\"",
-        Seen::Text(b"\n\t\r\x07\x08\x0c\x0b\\'\""),
+        Seen::StringLiteral(b"\n\t\r\x07\x08\x0c\x0b\\'\""),
         0,
         21,
         1,
@@ -123,7 +130,7 @@ const LAST: [Row<'static>; 41] = [
     ),
     (
         b"\"\\1\\12\\1234\\x4g\"",
-        Seen::Text(b"\x01\nS4\x04g"),
+        Seen::StringLiteral(b"\x01\nS4\x04g"),
         0,
         16,
         1,

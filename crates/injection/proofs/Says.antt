@@ -2,7 +2,7 @@
 use Rattle.std.proofs.Common.{◌≡◌, ℕ, List, [], ◌∷◌, ◌++◌, sym, ap, ◌∙◌}
 use Rattle.flat_code.specs.Told.{Stamped, tells, output_of, trail_of}
 use Rattle.flat_code.specs.Told as Told
-use Rattle.flat_code.specs.Laws.{TellsAppend, OutputAppends, TrailAppends}
+use Rattle.flat_code_laws.specs.Laws.{TellsAppend, OutputAppends, TrailAppends}
 use Rattle.injection.specs.Trail.{image_trail}
 use Rattle.injection.specs.Laws.{SaysKeep}
 use Rattle.injection.proofs.Accounts.{image_append, image_kept}

@@ -1,5 +1,6 @@
 -- What each operation on objects is on words and memory, for slots of 2 ^ g bytes.
-use Rattle.std.specs.Prelude.{◌≡◌, ◌≢◌, ◌==◌, ◌⊎◌, ℕ, ◌+◌, ◌-◌, ◌^◌, ◌<◌, ◌≤◌, nat_lt, nat_le, Bool, true, false, not, List, [], ◌∷◌, ◌++◌, length, map, reverse, Some, None, slice_get, ℤ, pos}
+use Rattle.std.specs.Prelude.{◌≡◌, ◌≢◌, ◌==◌, ◌⊎◌, ℕ, ◌+◌, ◌-◌, ◌^◌, ◌<◌, ◌≤◌, nat_lt, nat_le}
+use Rattle.std.specs.Prelude.{Bool, true, false, not, List, [], ◌∷◌, ◌++◌, length, map, reverse, Some, None, slice_get, ℤ, pos}
 use Rattle.bb_words.specs.Answers.{Goes, Ends}
 use Rattle.bb_words.specs.Numbers.{signed}
 use Rattle.bb_words.specs.Steps.{flag, size_of_width}
@@ -62,8 +63,10 @@ pub record AccountsKeep : Type 0 where
   pub pointers : (g : ℕ) (a b : List Object) (q : Pointer) → Accounted a b → IsPointer g a q → IsPointer g b q × (word_of b q ≡ word_of a q)
   pub values : (g : ℕ) (a b : List Object) (v : Value) → Accounted a b → IsValue g a v → IsValue g b v × (word_of_value b v ≡ word_of_value a v)
   pub cells : (g : ℕ) (a b : List Object) (c : Cell) → Accounted a b → IsCell g a c → IsCell g b c × (byte_of b c ≡ byte_of a c)
-  pub words : (g n : ℕ) (a b : List Object) (values : ℕ → Value) (words : Words) → Accounted a b → SameValues g n a values words → SameValues g n b values words
-  pub trails : (g : ℕ) (safe : SafeSites) (a b : List Object) (marks : List Mark) → Accounted a b → TrailIsNamed g a marks → TrailIsNamed g b marks × (image_trail safe b marks ≡ image_trail safe a marks)
+  pub words : (g n : ℕ) (a b : List Object) (values : ℕ → Value) (words : Words) → Accounted a b → SameValues g n a values words
+      → SameValues g n b values words
+  pub trails : (g : ℕ) (safe : SafeSites) (a b : List Object) (marks : List Mark) → Accounted a b → TrailIsNamed g a marks → TrailIsNamed g b marks
+      × (image_trail safe b marks ≡ image_trail safe a marks)
 
 -- The image of two trails is that of the one and then of the other.
 pub record TrailsAppend : Type 0 where
@@ -72,12 +75,16 @@ pub record TrailsAppend : Type 0 where
 
 -- What was told goes on to say what the world does, when more is told.
 pub record SaysKeep : Type 0 where
-  pub quiet : (safe : SafeSites) (w : World) (told more : List Stamped) → Says safe w told → output_of (tells more) ≡ [] → trail_of (tells more) ≡ [] → Says safe w (told ++ more)
-  pub written : (safe : SafeSites) (w : World) (byte : ℕ) (told more : List Stamped) → Says safe w told → output_of (tells more) ≡ byte ∷ [] → trail_of (tells more) ≡ []
+  pub quiet : (safe : SafeSites) (w : World) (told more : List Stamped) → Says safe w told → output_of (tells more) ≡ []
+      → trail_of (tells more) ≡ [] → Says safe w (told ++ more)
+  pub written : (safe : SafeSites) (w : World) (byte : ℕ) (told more : List Stamped) → Says safe w told → output_of (tells more) ≡ byte ∷ []
+      → trail_of (tells more) ≡ []
       → Says safe (record w { output = w.output ++ byte ∷ [] }) (told ++ more)
-  pub marked : (safe : SafeSites) (w : World) (mark : Mark) (told more : List Stamped) → Says safe w told → output_of (tells more) ≡ [] → trail_of (tells more) ≡ image_trail safe w.objects (mark ∷ [])
+  pub marked : (safe : SafeSites) (w : World) (mark : Mark) (told more : List Stamped) → Says safe w told → output_of (tells more) ≡ []
+      → trail_of (tells more) ≡ image_trail safe w.objects (mark ∷ [])
       → Says safe (noted mark w) (told ++ more)
-  pub accounted : (g : ℕ) (safe : SafeSites) (w x : World) (told : List Stamped) → Accounted w.objects x.objects → TrailIsNamed g w.objects w.trail → x.trail ≡ w.trail → x.output ≡ w.output
+  pub accounted : (g : ℕ) (safe : SafeSites) (w x : World) (told : List Stamped) → Accounted w.objects x.objects → TrailIsNamed g w.objects w.trail
+      → x.trail ≡ w.trail → x.output ≡ w.output
       → Says safe w told → Says safe x told
 
 -- Objects that are made come after the others; one that ends leaves its account.
@@ -102,7 +109,8 @@ PointersAreOwned = (g : ℕ) (os : List Object) (q : Pointer) → AreLaidOut g o
 
 -- the byte at the owner of a pointer to a live object is the object's exponent
 abbrev pub OwnersHaveExponents : Type 0
-OwnersHaveExponents = (g : ℕ) (os : List Object) (k : ℕ) (o : Object) (z : ℤ) (slot : ℕ) → AreLaidOut g os → IsLive os k o → IsInReach g o.exponent z → owner_slot g (word_of os (To k z)) ≡ Some slot → table.byte_of g (live_blocks os) slot ≡ o.exponent
+OwnersHaveExponents = (g : ℕ) (os : List Object) (k : ℕ) (o : Object) (z : ℤ) (slot : ℕ) → AreLaidOut g os → IsLive os k o
+    → IsInReach g o.exponent z → owner_slot g (word_of os (To k z)) ≡ Some slot → table.byte_of g (live_blocks os) slot ≡ o.exponent
 
 -- the move comes to a pointer, and that of words to its word
 pub record Arrives (g site : ℕ) (w : World) (from to : Pointer) (x : World) (answer : MoveAnswer) : Type 0 where
@@ -121,7 +129,8 @@ MovesAlike g site line w q answer (Ends Cut x) = ⊥
 
 abbrev pub MovesAreMoved : Type 0
 MovesAreMoved =
-    (g site line d slot : ℕ) (q : Pointer) (w : World) → AreLaidOut g w.objects → IsPointer g w.objects q → d < 2 ^ 32 → owner_slot g (word_of w.objects q) ≡ Some slot
+    (g site line d slot : ℕ) (q : Pointer) (w : World) → AreLaidOut g w.objects → IsPointer g w.objects q → d < 2 ^ 32
+    → owner_slot g (word_of w.objects q) ≡ Some slot
     → MovesAlike g site line w q (moved g (word_of w.objects q) d (table.byte_of g (live_blocks w.objects) slot)) (move g site line (signed d) q w)
 
 -- ---- Accesses
@@ -145,7 +154,8 @@ AccessesAlike w q size at (Ends Cut x) = ⊥
 
 -- A slot has at least four bytes, so that a place is a multiple of a size just where its address is.
 abbrev pub AccessesAreFound : Type 0
-AccessesAreFound = (g : ℕ) (width : Width) (q : Pointer) (w : World) → 2 ≤ g → AreLaidOut g w.objects → AccessesAlike w q (size_of_width width) (word_of w.objects q) (access (size_of_width width) q w)
+AccessesAreFound = (g : ℕ) (width : Width) (q : Pointer) (w : World) → 2 ≤ g → AreLaidOut g w.objects
+    → AccessesAlike w q (size_of_width width) (word_of w.objects q) (access (size_of_width width) q w)
 
 -- the bytes of an access that finds a place lie in a live block
 abbrev pub FoundLieInBlocks : Type 0
@@ -164,7 +174,8 @@ SpansIfAny site n w q (Goes first x) = IsSpanned site n w q first x
 SpansIfAny site n w q (Ends ending x) = Unit {0}
 
 abbrev pub SpansLieInObjects : Type 0
-SpansLieInObjects = (g site line n : ℕ) (q : Pointer) (w : World) → 2 ≤ g → 1 ≤ n → AreLaidOut g w.objects → SpansIfAny site n w q (span g site line n q w)
+SpansLieInObjects = (g site line n : ℕ) (q : Pointer) (w : World) → 2 ≤ g → 1 ≤ n → AreLaidOut g w.objects
+    → SpansIfAny site n w q (span g site line n q w)
 
 -- ---- Reads and writes
 
@@ -190,7 +201,8 @@ LoadsAlike g width memory w at (Ends (Reported kind line) x) = ⊥
 LoadsAlike g width memory w at (Ends Cut x) = ⊥
 
 abbrev pub LoadsAreReads : Type 0
-LoadsAreReads = (g : ℕ) (width : Width) (q : Pointer) (memory : Memory) (w : World) → 2 ≤ g → Injects g w.objects w.cells memory → LoadsAlike g width memory w (word_of w.objects q) (load width q w)
+LoadsAreReads = (g : ℕ) (width : Width) (q : Pointer) (memory : Memory) (w : World) → 2 ≤ g → Injects g w.objects w.cells memory
+    → LoadsAlike g width memory w (word_of w.objects q) (load width q w)
 
 -- a value is written, and its word to memory
 pub record Stores (g : ℕ) (width : Width) (memory : Memory) (w : World) (at word : ℕ) (x : World) : Type 0 where
@@ -209,7 +221,8 @@ StoresAlike g width memory w at word (Ends Cut x) = ⊥
 
 abbrev pub StoresAreWrites : Type 0
 StoresAreWrites =
-    (g : ℕ) (width : Width) (q : Pointer) (v : Value) (memory : Memory) (w : World) → 2 ≤ g → Injects g w.objects w.cells memory → IsValue g w.objects v
+    (g : ℕ) (width : Width) (q : Pointer) (v : Value) (memory : Memory) (w : World) → 2 ≤ g → Injects g w.objects w.cells memory
+    → IsValue g w.objects v
     → StoresAlike g width memory w (word_of w.objects q) (word_of_value w.objects v) (store width q v w)
 
 -- a part of an object gets a value
@@ -239,7 +252,8 @@ ClearsAreZeros =
 -- cells are copied, parts of pointers and places that overlap among them, as bytes are
 abbrev pub CopiesAreBytes : Type 0
 CopiesAreBytes =
-    (g n k i j t : ℕ) (o p : Object) (os : List Object) (cs : Cells) (memory : Memory) → IsLive os k o → IsLive os j p → i + n ≤ o.length → t + n ≤ p.length
+    (g n k i j t : ℕ) (o p : Object) (os : List Object) (cs : Cells) (memory : Memory) → IsLive os k o → IsLive os j p → i + n ≤ o.length
+    → t + n ≤ p.length
     → Injects g os cs memory → Injects g os (copied n cs k i j t) (copied_bytes n (o.base + i) (p.base + t) memory)
 
 abbrev pub SetsAreBytes : Type 0
@@ -276,7 +290,8 @@ ComparisonsAreOfWords =
     → ComparesAlike w v x (word_of_value w.objects v) (word_of_value w.objects x)
 
 abbrev pub TruthIsOfWords : Type 0
-TruthIsOfWords = (g : ℕ) (v : Value) (w : World) → AreLaidOut g w.objects → IsValue g w.objects v → GivesAlike w (not (word_of_value w.objects v == 0)) (truth v w)
+TruthIsOfWords = (g : ℕ) (v : Value) (w : World) → AreLaidOut g w.objects → IsValue g w.objects v
+    → GivesAlike w (not (word_of_value w.objects v == 0)) (truth v w)
 
 -- ---- Objects that come and go
 
@@ -296,14 +311,16 @@ pub record EndedAlike (g : ℕ) (os : List Object) (cs : Cells) (memory : Memory
   pub blocks : live_blocks (ended_in os k (Some o)) ≡ without o.base (live_blocks os)
 
 abbrev pub EndedKeeps : Type 0
-EndedKeeps = (g : ℕ) (os : List Object) (cs : Cells) (memory : Memory) (k : ℕ) (o : Object) → IsLive os k o → Injects g os cs memory → EndedAlike g os cs memory k o
+EndedKeeps = (g : ℕ) (os : List Object) (cs : Cells) (memory : Memory) (k : ℕ) (o : Object) → IsLive os k o → Injects g os cs memory
+    → EndedAlike g os cs memory k o
 
 -- heights and regions, when objects come and go
 pub record PlacesKeep : Type 0 where
   pub heights_made : (os : List Object) (o : Object) (stack : ℕ) → Heights os stack → stack ≤ o.base → Heights (os ++ o ∷ []) stack
   pub heights_since : (before after : List Object) (stack : ℕ) → Heights before stack → Since before after → Heights after stack
   pub heap_made : (os : List Object) (o : Object) → InRegions os → is_heap o.kind ≡ true → HEAP_START ≤ o.base → InRegions (os ++ o ∷ [])
-  pub other_made : (os : List Object) (o : Object) → InRegions os → is_heap o.kind ≡ false → o.base + 2 ^ o.exponent ≤ HEAP_START → InRegions (os ++ o ∷ [])
+  pub other_made : (os : List Object) (o : Object) → InRegions os → is_heap o.kind ≡ false → o.base + 2 ^ o.exponent ≤ HEAP_START
+      → InRegions (os ++ o ∷ [])
   pub regions_ended : (os : List Object) (k : ℕ) → InRegions os → InRegions (ended_in os k (slice_get os k))
 
 -- ---- The heap
@@ -347,7 +364,8 @@ AllocatesAlike g n w to u t (Ends ending x) = ⊥
 
 abbrev pub AllocationsAreOfBlocks : Type 0
 AllocationsAreOfBlocks =
-    (g n to : ℕ) (w : World) (u : FPoint) → 1 ≤ g → g ≤ 24 → Injects g w.objects w.cells u.world.memory → u.world.live ≡ live_blocks w.objects → Heights w.objects w.stack → InRegions w.objects
+    (g n to : ℕ) (w : World) (u : FPoint) → 1 ≤ g → g ≤ 24 → Injects g w.objects w.cells u.world.memory → u.world.live ≡ live_blocks w.objects
+    → Heights w.objects w.stack → InRegions w.objects
     → AllocatesAlike g n w to u (malloc g to n u) (allocate g n w)
 
 -- a live object of the heap ends by the pointer to its start, whose word is the address of its block
@@ -363,14 +381,16 @@ pub record Frees (w : World) (at : ℕ) (x : World) : Type 0 where
 -- a pointer is freed, or that is reported, just where its word is; or the run leaves its objects
 abbrev pub FreesAlike : (line : ℕ) → World → (at : ℕ) → Does Value → Type 0
 FreesAlike line w at (Goes v x) = (v ≡ Num 0) × (((at ≡ 0) × (x ≡ w)) ⊎ Frees w at x)
-FreesAlike line w at (Ends (Reported kind name) x) = (x ≡ w) × (kind ≡ BadFree) × (name ≡ line) × (at ≢ 0) × (heap_block at (live_blocks w.objects) ≡ None)
+FreesAlike line w at (Ends (Reported kind name) x) = (x ≡ w) × (kind ≡ BadFree) × (name ≡ line) × (at ≢ 0)
+    × (heap_block at (live_blocks w.objects) ≡ None)
 FreesAlike line w at (Ends (Outside cause) x) = x ≡ w
 FreesAlike line w at (Ends (Exited n) x) = ⊥
 FreesAlike line w at (Ends (Trapped kind) x) = ⊥
 FreesAlike line w at (Ends Cut x) = ⊥
 
 abbrev pub FreesAreOfBlocks : Type 0
-FreesAreOfBlocks = (g line : ℕ) (q : Pointer) (w : World) → AreLaidOut g w.objects → InRegions w.objects → IsPointer g w.objects q → FreesAlike line w (word_of w.objects q) (free line q w)
+FreesAreOfBlocks = (g line : ℕ) (q : Pointer) (w : World) → AreLaidOut g w.objects → InRegions w.objects → IsPointer g w.objects q
+    → FreesAlike line w (word_of w.objects q) (free line q w)
 
 -- ---- Frames
 
@@ -399,7 +419,8 @@ pub record Entered (g start : ℕ) (plan : List Placed) (w : World) (v : World) 
 -- A frame is entered in the free part of the data stack.
 abbrev pub EntriesKeep : Type 0
 EntriesKeep =
-    (g start : ℕ) (plan : List Placed) (w : World) (u : FWorld) (stack : ℕ) → IsLaid g start start stack plan → STACK_START ≤ start → start ≤ stack
+    (g start : ℕ) (plan : List Placed) (w : World) (u : FWorld) (stack : ℕ) → IsLaid g start start stack plan → STACK_START ≤ start
+    → start ≤ stack
     → Injects g w.objects w.cells u.memory → u.live ≡ live_blocks w.objects → Heights w.objects stack → InRegions w.objects
     → Entered g start plan w (all_made Local start plan w) (make_all (blocks_from start (exponents plan)) u)
 
@@ -416,7 +437,8 @@ pub record Left (g : ℕ) (caller : List Object) (v : World) (t : FWorld) : Type
 abbrev pub ExitsKeep : Type 0
 ExitsKeep =
     (g start stack : ℕ) (plan : List Placed) (caller : List Object) (w : World) (u : FWorld) → IsLaid g start start stack plan → stack ≤ HEAP_START
-    → Accounted (caller ++ frame_objects start plan) w.objects → Stays (caller ++ frame_objects start plan) w.objects → Since (caller ++ frame_objects start plan) w.objects
+    → Accounted (caller ++ frame_objects start plan) w.objects → Stays (caller ++ frame_objects start plan) w.objects
+    → Since (caller ++ frame_objects start plan) w.objects
     → Injects g w.objects w.cells u.memory → u.live ≡ live_blocks w.objects → InRegions w.objects
     → Left g caller (all_ended (length plan) (length caller) w) (end_all (reverse (blocks_from start (exponents plan))) u)
 

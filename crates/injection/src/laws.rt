@@ -1,5 +1,9 @@
 //! What each operation on objects is on words and memory, for what stands on it.
-ghost use Rattle.injection.specs.Laws.{AccountsCompose, AccountsKeep, TrailsAppend, SaysKeep, AccountsGrow, PointersAreOwned, OwnersHaveExponents, MovesAreMoved, AccessesAreFound, FoundLieInBlocks, SpansLieInObjects, LoadsAreReads, StoresAreWrites, InitializersAreWrites, ClearsAreZeros, CopiesAreBytes, SetsAreBytes, ComparisonsAreOfWords, TruthIsOfWords, MadeKeeps, EndedKeeps, PlacesKeep, PlacesAreFree, AllocationsAreOfBlocks, FreesAreOfBlocks, EntriesKeep, ExitsKeep, FramesAreAlike};
+ghost use Rattle.injection.specs.Laws.{AccountsCompose, AccountsKeep, TrailsAppend, SaysKeep, AccountsGrow, PointersAreOwned};
+ghost use Rattle.injection.specs.Laws.{OwnersHaveExponents, MovesAreMoved, AccessesAreFound, FoundLieInBlocks, SpansLieInObjects};
+ghost use Rattle.injection.specs.Laws.{LoadsAreReads, StoresAreWrites, InitializersAreWrites, ClearsAreZeros, CopiesAreBytes};
+ghost use Rattle.injection.specs.Laws.{SetsAreBytes, ComparisonsAreOfWords, TruthIsOfWords, MadeKeeps, EndedKeeps, PlacesKeep};
+ghost use Rattle.injection.specs.Laws.{PlacesAreFree, AllocationsAreOfBlocks, FreesAreOfBlocks, EntriesKeep, ExitsKeep, FramesAreAlike};
 
 /// What objects keep over two parts of a run they keep over both.
 pub fn accounts_compose()
@@ -20,9 +24,9 @@ pub fn trails_append()
 pub fn says_keep()
     ensures { SaysKeep }
 {
-    flat_code::laws::tells_append();
-    flat_code::laws::output_appends();
-    flat_code::laws::trail_appends();
+    flat_code_laws::laws::tells_append();
+    flat_code_laws::laws::output_appends();
+    flat_code_laws::laws::trail_appends();
 }
 
 /// Objects that are made or end leave the accounts of all others, and their own.

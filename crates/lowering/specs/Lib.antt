@@ -1,6 +1,1 @@
-pub mod Lower
-pub mod Built
-pub mod Keeps
-pub mod Room
-pub mod Laws
 pub mod Lowers

@@ -1,6 +1,7 @@
 -- What holds of marked words: pointers as words, their moves, and how they compare. A pointer is given by the block of its
 -- object, 2 ^ e bytes from base on, and its offset.
-use Rattle.std.specs.Prelude.{◌≡◌, ◌≢◌, ◌⊎◌, ℕ, ◌+◌, ◌*◌, ◌%◌, ◌^◌, ◌<◌, ◌≤◌, ℤ, pos, negsuc, ◌+ℤ◌, ◌-ℤ◌, Option, Some, nat_lt, int_div, int_lt, if◌then◌else◌}
+use Rattle.std.specs.Prelude.{◌≡◌, ◌≢◌, ◌⊎◌, ℕ, ◌+◌, ◌*◌, ◌%◌, ◌^◌, ◌<◌, ◌≤◌, ℤ}
+use Rattle.std.specs.Prelude.{pos, negsuc, ◌+ℤ◌, ◌-ℤ◌, Option, Some, nat_lt, int_div, int_lt, if◌then◌else◌}
 use Rattle.std.specs.declared.cmp.Ordering.{Ordering}
 use Rattle.std.specs.declared.cmp.Ordering.TheVariants.{Less, Equal, Greater}
 use Rattle.bb_words.specs.Numbers.{signed, word_of, difference as word_difference}
@@ -38,7 +39,8 @@ pub record OwnedBy (g base e : ℕ) (slot : Option ℕ) : Type 0 where
 
 -- a pointer in reach of its block is owned by a slot of that block
 abbrev pub OwnerIsBlock : Type 0
-OwnerIsBlock = (g base e : ℕ) (offset : ℤ) → IsPlaced g base e → IsInReach g e offset → OwnedBy g base e (in_memory g (owner_slot g (word_at base e offset)))
+OwnerIsBlock = (g base e : ℕ) (offset : ℤ) → IsPlaced g base e → IsInReach g e offset
+    → OwnedBy g base e (in_memory g (owner_slot g (word_at base e offset)))
 
 -- ---- Moves
 
@@ -51,7 +53,8 @@ answer_at g base e (negsuc n) = if nat_lt n (half_slot g) then outside (word_at 
 
 -- a pointer in reach that is moved by a word, read as signed, comes to the sum of its offset and the distance
 abbrev pub MovesAreOffsets : Type 0
-MovesAreOffsets = (g base e d : ℕ) (offset : ℤ) → IsPlaced g base e → IsInReach g e offset → d < 2 ^ 32 → moved g (word_at base e offset) d e ≡ answer_at g base e (offset +ℤ signed d)
+MovesAreOffsets = (g base e d : ℕ) (offset : ℤ) → IsPlaced g base e → IsInReach g e offset → d < 2 ^ 32
+    → moved g (word_at base e offset) d e ≡ answer_at g base e (offset +ℤ signed d)
 
 -- whatever a word is, what its move comes to is in reach of its owner's block
 pub data ComesInReach (g base e : ℕ) : MoveAnswer → Type 0 where
@@ -70,17 +73,20 @@ tested g e address offset =
 
 -- two unsigned tests give a move's answer
 abbrev pub MovesByTests : Type 0
-MovesByTests = (g p d e slot : ℕ) → 1 ≤ g → g ≤ 24 → 1 ≤ e → e ≤ 24 → owner_slot g p ≡ Some slot → moved g p d e ≡ tested g e (moved_address p d) (word_difference (moved_address p d) (base_of g e slot))
+MovesByTests = (g p d e slot : ℕ) → 1 ≤ g → g ≤ 24 → 1 ≤ e → e ≤ 24 → owner_slot g p ≡ Some slot
+    → moved g p d e ≡ tested g e (moved_address p d) (word_difference (moved_address p d) (base_of g e slot))
 
 -- ---- Comparisons
 
 -- pointers in reach of blocks that do not meet have different words
 abbrev pub WordsAreApart : Type 0
-WordsAreApart = (g base e base' e' : ℕ) (offset offset' : ℤ) → IsPlaced g base e → IsPlaced g base' e' → MissEachOther base e base' e' → IsInReach g e offset → IsInReach g e' offset' → word_at base e offset ≢ word_at base' e' offset'
+WordsAreApart = (g base e base' e' : ℕ) (offset offset' : ℤ) → IsPlaced g base e → IsPlaced g base' e' → MissEachOther base e base' e'
+    → IsInReach g e offset → IsInReach g e' offset' → word_at base e offset ≢ word_at base' e' offset'
 
 -- pointers in reach of one block have one word only where their offsets are equal
 abbrev pub WordsAreOffsets : Type 0
-WordsAreOffsets = (g base e : ℕ) (offset offset' : ℤ) → IsPlaced g base e → IsInReach g e offset → IsInReach g e offset' → word_at base e offset ≡ word_at base e offset' → offset ≡ offset'
+WordsAreOffsets = (g base e : ℕ) (offset offset' : ℤ) → IsPlaced g base e → IsInReach g e offset → IsInReach g e offset'
+    → word_at base e offset ≡ word_at base e offset' → offset ≡ offset'
 
 -- no pointer has the word 0, which is that of the null pointer
 abbrev pub WordsAreNotNull : Type 0
@@ -91,8 +97,10 @@ order_of a b = if int_lt a b then Less else (if int_lt b a then Greater else Equ
 
 -- the order of two words into one block is that of the offsets
 abbrev pub OrderIsOffsets : Type 0
-OrderIsOffsets = (g base e : ℕ) (offset offset' : ℤ) → IsPlaced g base e → IsInReach g e offset → IsInReach g e offset' → order (word_at base e offset) (word_at base e offset') ≡ order_of offset offset'
+OrderIsOffsets = (g base e : ℕ) (offset offset' : ℤ) → IsPlaced g base e → IsInReach g e offset → IsInReach g e offset'
+    → order (word_at base e offset) (word_at base e offset') ≡ order_of offset offset'
 
 -- the difference of two words into one block is that of the offsets, by the size
 abbrev pub DifferenceIsOffsets : Type 0
-DifferenceIsOffsets = (g base e size : ℕ) (offset offset' : ℤ) → IsPlaced g base e → IsInReach g e offset → IsInReach g e offset' → difference (word_at base e offset) (word_at base e offset') size ≡ word_of (int_div (offset -ℤ offset') (pos size))
+DifferenceIsOffsets = (g base e size : ℕ) (offset offset' : ℤ) → IsPlaced g base e → IsInReach g e offset → IsInReach g e offset'
+    → difference (word_at base e offset) (word_at base e offset') size ≡ word_of (int_div (offset -ℤ offset') (pos size))

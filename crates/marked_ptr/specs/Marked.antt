@@ -1,7 +1,8 @@
 -- Marked words. A pointer may lie less than half a slot outside its block; its word then has bit 31 set, its mark.
 -- A slot has 2 ^ g bytes, and a block is made of whole slots, so the half of its slot in which such a word lies tells
 -- on which side its block is: the slot next to it on that side is the one that owns it.
-use Rattle.std.specs.Prelude.{◌==◌, ℕ, suc, ◌+◌, ◌-◌, ◌*◌, ◌/◌, ◌%◌, ◌^◌, ℤ, pos, negsuc, Bool, Option, Some, None, nat_lt, nat_le, int_div, if◌then◌else◌}
+use Rattle.std.specs.Prelude.{◌==◌, ℕ, suc, ◌+◌, ◌-◌, ◌*◌, ◌/◌, ◌%◌, ◌^◌, ℤ, pos}
+use Rattle.std.specs.Prelude.{negsuc, Bool, Option, Some, None, nat_lt, nat_le, int_div, if◌then◌else◌}
 use Rattle.std.specs.declared.cmp.Ordering.{Ordering}
 use Rattle.std.specs.declared.cmp.Ordering.TheVariants.{Less, Equal, Greater}
 use Rattle.bb_words.specs.Numbers.{signed, word_of, difference as word_difference}

@@ -1,5 +1,6 @@
 //! What holds of marked words, for what stands on them.
-ghost use Rattle.marked_ptr.specs.Laws.{OwnerIsBlock, MovesAreOffsets, MovesStayInReach, MovesByTests, WordsAreApart, WordsAreOffsets, WordsAreNotNull, OrderIsOffsets, DifferenceIsOffsets};
+ghost use Rattle.marked_ptr.specs.Laws.{OwnerIsBlock, MovesAreOffsets, MovesStayInReach, MovesByTests, WordsAreApart};
+ghost use Rattle.marked_ptr.specs.Laws.{WordsAreOffsets, WordsAreNotNull, OrderIsOffsets, DifferenceIsOffsets};
 
 /// A pointer in its block, or less than half a slot outside, is owned by a slot of that block.
 pub fn owner_is_block()

@@ -1,6 +1,7 @@
 //! The calls on words. A slot has 16 bytes.
 ghost use Rattle.std.specs.Prelude.{◌≡◌, ◌⊎◌, ◌≤◌, ◌<◌, ◌+◌, ◌*◌, ◌/◌, ◌^◌, ◌%◌, IsSome, Some};
-ghost use Rattle.marked_ptr.specs.Marked.{marked as marked_word, unmarked as unmarked_word, owner_slot as slot_of, in_memory, base_of, moved_address, moved as moved_word, order as order_of, difference as difference_of};
+ghost use Rattle.marked_ptr.specs.Marked.{marked as marked_word, unmarked as unmarked_word, owner_slot as slot_of, in_memory, base_of};
+ghost use Rattle.marked_ptr.specs.Marked.{moved_address, moved as moved_word, order as order_of, difference as difference_of};
 ghost use Rattle.marked_ptr.specs.Laws.{tested};
 ghost use Rattle.bb_words.specs.Numbers.{difference as word_difference};
 

@@ -8,11 +8,11 @@ use Rattle.bb_words.specs.declared.kinds.ReportKind.TheVariants.{Depth}
 use Rattle.size_table.specs.declared.memory_map.TheConstants.{MOST_CALLS}
 use Rattle.block_layout.specs.Layout.{Placed, layout, position_of}
 use Rattle.block_layout.specs.Objects.{block_items}
-use Rattle.c_typed.specs.Types.{CType, IsScalar}
-use Rattle.c_typed.specs.TypedTree.{CLocal, CFunction, CProgram}
-use Rattle.c_typed.specs.TypedRules.{IsResult, prototype_of}
-use Rattle.c_typed.specs.TypedLaws.{AggregatesHaveObjects}
-use Rattle.c_typed.specs.Typed.{IsFunction, Typed, stmt_refers}
+use Rattle.typed_tree.specs.Types.{CType, IsScalar}
+use Rattle.typed_tree.specs.TypedTree.{CLocal, CFunction, CProgram}
+use Rattle.typed_tree.specs.TypedRules.{IsResult, prototype_of}
+use Rattle.typed_tree.specs.TypedLaws.{AggregatesHaveObjects}
+use Rattle.typed_tree.specs.Typed.{IsFunction, Typed, stmt_refers}
 use Rattle.source_meaning.specs.declared.values.Value.{Value}
 use Rattle.source_meaning.specs.declared.values.Value.TheVariants.{Num}
 use Rattle.source_meaning.specs.declared.values.Slot.TheVariants.{Kept, Lies}

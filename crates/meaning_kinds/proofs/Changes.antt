@@ -8,14 +8,14 @@ use Rattle.c_words.specs.declared.operators.BinaryOperator.{BinaryOperator}
 use Rattle.c_words.specs.declared.operators.BinaryOperator.TheVariants as op
 use Rattle.c_words.specs.declared.operators.AssignOperator.{AssignOperator}
 use Rattle.c_words.specs.declared.operators.AssignOperator.TheVariants as assign
-use Rattle.c_typed.specs.Types.{CType, is_struct, is_unsigned, IsScalar}
-use Rattle.c_typed.specs.Sizes.{size_of}
-use Rattle.c_typed.specs.TypedTree.{CExpr, CLocal, CStruct, type_of}
-use Rattle.c_typed.specs.TypedOperands.{own_type}
-use Rattle.c_typed.specs.TypedRules.{CanStep, IsReckoned, IsShiftedIn, IsAssignment, IsBinary}
-use Rattle.c_typed.specs.TypedRules.CanStep.{number as steps_number, pointer as steps_pointer}
-use Rattle.c_typed.specs.TypedRules.IsSet.{scalar as set_scalar, struct as set_struct}
-use Rattle.c_typed.specs.TypedRules.IsChanged.{numbers as changed_numbers, pointer_and_number as changed_pointer}
+use Rattle.typed_tree.specs.Types.{CType, is_struct, is_unsigned, IsScalar}
+use Rattle.typed_tree.specs.Sizes.{size_of}
+use Rattle.typed_tree.specs.TypedTree.{CExpr, CLocal, CStruct, type_of}
+use Rattle.typed_tree.specs.TypedOperands.{own_type}
+use Rattle.typed_tree.specs.TypedRules.{CanStep, IsReckoned, IsShiftedIn, IsAssignment, IsBinary}
+use Rattle.typed_tree.specs.TypedRules.CanStep.{number as steps_number, pointer as steps_pointer}
+use Rattle.typed_tree.specs.TypedRules.IsSet.{scalar as set_scalar, struct as set_struct}
+use Rattle.typed_tree.specs.TypedRules.IsChanged.{numbers as changed_numbers, pointer_and_number as changed_pointer}
 use Rattle.source_meaning.specs.declared.values.Pointer.{Pointer}
 use Rattle.source_meaning.specs.declared.values.Value.{Value}
 use Rattle.source_meaning.specs.declared.values.Place.{Place}

@@ -6,21 +6,21 @@ use Rattle.bb_words.specs.Answers.{and_then}
 use Rattle.c_words.specs.declared.operators.UnaryOperator.TheVariants as unary
 use Rattle.c_words.specs.declared.operators.AssignOperator.{AssignOperator}
 use Rattle.c_words.specs.declared.operators.AssignOperator.TheVariants as assign
-use Rattle.c_typed.specs.declared.typed_expr.Conversion.TheVariants as conversion
-use Rattle.c_typed.specs.declared.typed_expr.Called.{Called}
-use Rattle.c_typed.specs.declared.typed_expr.Called.TheVariants.{Defined, Library}
-use Rattle.c_typed.specs.declared.typed.GlobalObject.TheVariants as global
-use Rattle.c_typed.specs.Types.{CType, is_struct, is_array, IsNumber, IsPointer}
-use Rattle.c_typed.specs.TypedTree.{CExpr, CForm, CExprs, CStruct, CLocal, CFunction, CProgram, type_of}
-use Rattle.c_typed.specs.TypedOperands.{is_place, has_object, is_null}
-use Rattle.c_typed.specs.TypedRules.{prototype_of, prototype_in_library, CanStep, IsAssignable, IsAssignment, AreAlternatives, MayCast, IsCall, AreGiven}
-use Rattle.c_typed.specs.TypedRules.AreAlternatives.{numbers as two_numbers, pointers as two_pointers, voids as two_voids}
-use Rattle.c_typed.specs.TypedRules.MayCast.{to_void, numbers as cast_numbers, pointers as cast_pointers, null as cast_nulls}
-use Rattle.c_typed.specs.TypedRules.IsSet.{scalar as set_scalar, struct as set_struct}
-use Rattle.c_typed.specs.TypedRules.IsChanged.{numbers as changed_numbers, pointer_and_number as changed_pointer}
-use Rattle.c_typed.specs.TypedBody.{Environment, IsLiteral, IsExpr, AreExprs}
-use Rattle.c_typed.specs.TypedBody.IsLiteral.{int as literal_int, unsigned as literal_unsigned}
-use Rattle.c_typed.specs.Typed.{environment_of, is_local}
+use Rattle.typed_tree.specs.declared.typed_expr.Conversion.TheVariants as conversion
+use Rattle.typed_tree.specs.declared.typed_expr.Called.{Called}
+use Rattle.typed_tree.specs.declared.typed_expr.Called.TheVariants.{Defined, Library}
+use Rattle.typed_tree.specs.declared.typed.GlobalObject.TheVariants as global
+use Rattle.typed_tree.specs.Types.{CType, is_struct, is_array, IsNumber, IsPointer}
+use Rattle.typed_tree.specs.TypedTree.{CExpr, CForm, CExprs, CStruct, CLocal, CFunction, CProgram, type_of}
+use Rattle.typed_tree.specs.TypedOperands.{is_place, has_object, is_null}
+use Rattle.typed_tree.specs.TypedRules.{prototype_of, prototype_in_library, CanStep, IsAssignable, IsAssignment, AreAlternatives, MayCast, IsCall, AreGiven}
+use Rattle.typed_tree.specs.TypedRules.AreAlternatives.{numbers as two_numbers, pointers as two_pointers, voids as two_voids}
+use Rattle.typed_tree.specs.TypedRules.MayCast.{to_void, numbers as cast_numbers, pointers as cast_pointers, null as cast_nulls}
+use Rattle.typed_tree.specs.TypedRules.IsSet.{scalar as set_scalar, struct as set_struct}
+use Rattle.typed_tree.specs.TypedRules.IsChanged.{numbers as changed_numbers, pointer_and_number as changed_pointer}
+use Rattle.typed_tree.specs.TypedBody.{Environment, IsLiteral, IsExpr, AreExprs}
+use Rattle.typed_tree.specs.TypedBody.IsLiteral.{int as literal_int, unsigned as literal_unsigned}
+use Rattle.typed_tree.specs.Typed.{environment_of, is_local}
 use Rattle.source_meaning.specs.declared.values.Value.{Value}
 use Rattle.source_meaning.specs.declared.values.Place.TheVariants.{Variable, Memory}
 use Rattle.source_meaning.specs.declared.values.Held.{Held}

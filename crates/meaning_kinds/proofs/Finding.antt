@@ -3,10 +3,10 @@ use Rattle.std.proofs.Common.{◌≡◌, ℕ, Bool, true, false, List, Option, S
 use Rattle.std.specs.Prelude.{◌||◌, ◌==◌, IsTrue, map, slice_get, option_map}
 use Rattle.std.proofs.lemmas.Bool.{true≢false}
 use Rattle.std.proofs.lemmas.Option.{slice_get-map}
-use Rattle.c_typed.specs.TypedTree.{CExpr, CForm, CExprs, CLocal}
-use Rattle.c_typed.specs.TypedOperands.{is_place, has_object}
-use Rattle.c_typed.specs.Walk.{walked_all, any_of, some_expr}
-use Rattle.c_typed.specs.Typed.{refers_to}
+use Rattle.typed_tree.specs.TypedTree.{CExpr, CForm, CExprs, CLocal}
+use Rattle.typed_tree.specs.TypedOperands.{is_place, has_object}
+use Rattle.typed_tree.specs.Walk.{walked_all, any_of, some_expr}
+use Rattle.typed_tree.specs.Typed.{refers_to}
 use Rattle.meaning_kinds.specs.Kinds.{Never}
 use Rattle.meaning_kinds.proofs.ValueKinds.{not_there}
 use Rattle.meaning_kinds.proofs.Places.{same_thing}

@@ -4,13 +4,13 @@ use Rattle.std.specs.Prelude.{◌||◌, IsTrue, slice_get}
 use Rattle.std.proofs.lemmas.Bool.{true≢false}
 use Rattle.bb_words.specs.declared.steps.Width.{Width}
 use Rattle.bb_words.specs.declared.steps.Width.TheVariants as width
-use Rattle.c_typed.specs.Types.{CType, is_array, is_struct, IsScalar}
-use Rattle.c_typed.specs.TypedTree.{CInitial, CInitials, CLocal, CFunction, CProgram, type_of}
-use Rattle.c_typed.specs.TypedRules.{part_type}
-use Rattle.c_typed.specs.Walk.{over_initial, over_initials}
-use Rattle.c_typed.specs.TypedBody.{Environment, IsInitial, AreInitials, IsInitialized}
-use Rattle.c_typed.specs.TypedBody.IsInitialized.{parts as by_parts, copy as by_copy}
-use Rattle.c_typed.specs.Typed.{environment_of}
+use Rattle.typed_tree.specs.Types.{CType, is_array, is_struct, IsScalar}
+use Rattle.typed_tree.specs.TypedTree.{CInitial, CInitials, CLocal, CFunction, CProgram, type_of}
+use Rattle.typed_tree.specs.TypedRules.{part_type}
+use Rattle.typed_tree.specs.Walk.{over_initial, over_initials}
+use Rattle.typed_tree.specs.TypedBody.{Environment, IsInitial, AreInitials, IsInitialized}
+use Rattle.typed_tree.specs.TypedBody.IsInitialized.{parts as by_parts, copy as by_copy}
+use Rattle.typed_tree.specs.Typed.{environment_of}
 use Rattle.source_meaning.specs.declared.values.Value.{Value}
 use Rattle.source_meaning.specs.declared.values.Value.TheVariants.{Num}
 use Rattle.source_meaning.specs.declared.values.Slot.{Slot}

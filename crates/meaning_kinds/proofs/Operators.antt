@@ -8,17 +8,17 @@ use Rattle.size_table.specs.declared.memory_map.TheConstants.{MOST_BYTES}
 use Rattle.c_words.specs.declared.operators.StepOperator.{StepOperator}
 use Rattle.c_words.specs.declared.operators.BinaryOperator.{BinaryOperator}
 use Rattle.c_words.specs.declared.operators.BinaryOperator.TheVariants as op
-use Rattle.c_typed.specs.declared.typed_expr.LibCall.{LibCall}
-use Rattle.c_typed.specs.declared.typed_expr.LibCall.TheVariants as lib
-use Rattle.c_typed.specs.Types.{CType, same, is_number, is_pointer, is_void_pointer, is_unsigned, IsNumber, IsPointer, IsScalar, common, promoted}
-use Rattle.c_typed.specs.TypedTree.{CExpr, CStruct, type_of}
-use Rattle.c_typed.specs.TypedOperands.{IsPromoted, own_type, unconverted, meeting_type, is_null}
-use Rattle.c_typed.specs.TypedRules.{IsPointerToComplete, AreCommon, CanStep, IsBinary, prototype_in_library}
-use Rattle.c_typed.specs.TypedRules.AreAdded.{numbers as added_numbers, pointer_and_number as added_pointer, number_and_pointer as added_number}
-use Rattle.c_typed.specs.TypedRules.AreSubtracted.{numbers as taken_numbers, pointer_and_number as taken_number, pointers as taken_pointers}
-use Rattle.c_typed.specs.TypedRules.AreOrdered.{numbers as ordered_numbers, pointers as ordered_pointers}
-use Rattle.c_typed.specs.TypedRules.AreEquated.{numbers as equated_numbers, pointers as equated_pointers}
-use Rattle.c_typed.specs.TypedRules.CanStep.{number as steps_number, pointer as steps_pointer}
+use Rattle.typed_tree.specs.declared.typed_expr.LibCall.{LibCall}
+use Rattle.typed_tree.specs.declared.typed_expr.LibCall.TheVariants as lib
+use Rattle.typed_tree.specs.Types.{CType, same, is_number, is_pointer, is_void_pointer, is_unsigned, IsNumber, IsPointer, IsScalar, common, promoted}
+use Rattle.typed_tree.specs.TypedTree.{CExpr, CStruct, type_of}
+use Rattle.typed_tree.specs.TypedOperands.{IsPromoted, own_type, unconverted, meeting_type, is_null}
+use Rattle.typed_tree.specs.TypedRules.{IsPointerToComplete, AreCommon, CanStep, IsBinary, prototype_in_library}
+use Rattle.typed_tree.specs.TypedRules.AreAdded.{numbers as added_numbers, pointer_and_number as added_pointer, number_and_pointer as added_number}
+use Rattle.typed_tree.specs.TypedRules.AreSubtracted.{numbers as taken_numbers, pointer_and_number as taken_number, pointers as taken_pointers}
+use Rattle.typed_tree.specs.TypedRules.AreOrdered.{numbers as ordered_numbers, pointers as ordered_pointers}
+use Rattle.typed_tree.specs.TypedRules.AreEquated.{numbers as equated_numbers, pointers as equated_pointers}
+use Rattle.typed_tree.specs.TypedRules.CanStep.{number as steps_number, pointer as steps_pointer}
 use Rattle.source_meaning.specs.declared.values.Pointer.{Pointer}
 use Rattle.source_meaning.specs.declared.values.Pointer.TheVariants.{Null, To}
 use Rattle.source_meaning.specs.declared.values.Value.{Value}

@@ -4,10 +4,10 @@ use Rattle.std.specs.Prelude.{◌==◌, slice_get, if◌then◌else◌}
 use Rattle.std.proofs.lemmas.Bool.{true≢false}
 use Rattle.bb_words.specs.declared.steps.Width.{Width}
 use Rattle.bb_words.specs.declared.steps.Width.TheVariants as width
-use Rattle.c_typed.specs.Types.{CType, IsNumber, IsPointer, IsScalar}
-use Rattle.c_typed.specs.TypedTree.{CExpr, CLocal, type_of}
-use Rattle.c_typed.specs.TypedOperands.{is_place, has_object}
-use Rattle.c_typed.specs.Typed.{is_local}
+use Rattle.typed_tree.specs.Types.{CType, IsNumber, IsPointer, IsScalar}
+use Rattle.typed_tree.specs.TypedTree.{CExpr, CLocal, type_of}
+use Rattle.typed_tree.specs.TypedOperands.{is_place, has_object}
+use Rattle.typed_tree.specs.Typed.{is_local}
 use Rattle.source_meaning.specs.declared.values.Pointer.{Pointer}
 use Rattle.source_meaning.specs.declared.values.Value.{Value}
 use Rattle.source_meaning.specs.declared.values.Value.TheVariants.{Num, Ptr}

@@ -2,13 +2,13 @@
 use Rattle.std.proofs.Common.{◌≡◌, ℕ, Bool, true, false, Some, refl, sym, ap, ◌∙◌}
 use Rattle.std.specs.Prelude.{◌||◌, All, IsTrue, map, slice_get}
 use Rattle.std.proofs.lemmas.Bool.{true≢false}
-use Rattle.c_typed.specs.Types.{CType, is_array, is_struct}
-use Rattle.c_typed.specs.TypedTree.{CExpr, CLocal, CFunction, CProgram, type_of}
-use Rattle.c_typed.specs.TypedOperands.{has_object}
-use Rattle.c_typed.specs.TypedRules.{IsResult, prototype_of}
-use Rattle.c_typed.specs.TypedBody.{IsExpr}
-use Rattle.c_typed.specs.TypedLaws.{AggregatesHaveObjects}
-use Rattle.c_typed.specs.Typed.{IsLocalObject, environment_of, stmt_refers}
+use Rattle.typed_tree.specs.Types.{CType, is_array, is_struct}
+use Rattle.typed_tree.specs.TypedTree.{CExpr, CLocal, CFunction, CProgram, type_of}
+use Rattle.typed_tree.specs.TypedOperands.{has_object}
+use Rattle.typed_tree.specs.TypedRules.{IsResult, prototype_of}
+use Rattle.typed_tree.specs.TypedBody.{IsExpr}
+use Rattle.typed_tree.specs.TypedLaws.{AggregatesHaveObjects}
+use Rattle.typed_tree.specs.Typed.{IsLocalObject, environment_of, stmt_refers}
 use Rattle.meaning_kinds.proofs.Finding.{block_parts}
 
 pub record Setting (p : CProgram) (f : CFunction) : Type 0 where

@@ -3,11 +3,11 @@ use Rattle.std.proofs.Common.{◌≡◌, ℕ, zero, suc, ◌+◌, Bool, true, fa
 use Rattle.std.specs.Prelude.{◌||◌, slice_get}
 use Rattle.bb_words.specs.Answers.{Goes, either}
 use Rattle.c_words.specs.declared.place.At.{At}
-use Rattle.c_typed.specs.Types.{CType}
-use Rattle.c_typed.specs.TypedTree.{CExpr, CInitializer, CDeclaration, CStart, CStmt, CStmts, CLocal, CFunction, CProgram}
-use Rattle.c_typed.specs.Walk.{over_initializer, over_declarations, over_start, over_expr_if_any, over_stmts}
-use Rattle.c_typed.specs.TypedBody.{Environment, IsExpr, IsInitialized, MayInitialize, IsDeclaration, AreDeclarations, IsStart, IsTestedIfAny, IsEvaluatedIfAny, IsStmt, AreStmts}
-use Rattle.c_typed.specs.Typed.{environment_of, stmt_refers}
+use Rattle.typed_tree.specs.Types.{CType}
+use Rattle.typed_tree.specs.TypedTree.{CExpr, CInitializer, CDeclaration, CStart, CStmt, CStmts, CLocal, CFunction, CProgram}
+use Rattle.typed_tree.specs.Walk.{over_initializer, over_declarations, over_start, over_expr_if_any, over_stmts}
+use Rattle.typed_tree.specs.TypedBody.{Environment, IsExpr, IsInitialized, MayInitialize, IsDeclaration, AreDeclarations, IsStart, IsTestedIfAny, IsEvaluatedIfAny, IsStmt, AreStmts}
+use Rattle.typed_tree.specs.Typed.{environment_of, stmt_refers}
 use Rattle.source_meaning.specs.declared.values.Value.TheVariants.{Num}
 use Rattle.source_meaning.specs.declared.values.Want.TheVariants.{ItsValue}
 use Rattle.source_meaning.specs.declared.values.Signal.{Signal}

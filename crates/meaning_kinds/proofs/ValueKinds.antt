@@ -2,8 +2,8 @@
 use Rattle.std.proofs.Common.{◌≡◌, Bool, true, false, List, Option, Some, None, refl, sym, ap, ◌∙◌}
 use Rattle.std.proofs.lemmas.Bool.{true≢false}
 use Rattle.bb_words.specs.Answers.{Goes, Ends, and_then, either}
-use Rattle.c_typed.specs.Types.{CType, is_number, is_pointer, IsNumber, IsPointer}
-use Rattle.c_typed.specs.TypedTree.{CLocal}
+use Rattle.typed_tree.specs.Types.{CType, is_number, is_pointer, IsNumber, IsPointer}
+use Rattle.typed_tree.specs.TypedTree.{CLocal}
 use Rattle.source_meaning.specs.declared.values.Value.{Value}
 use Rattle.source_meaning.specs.declared.values.Ending.{Ending}
 use Rattle.source_meaning.specs.Worlds.{World, Does}

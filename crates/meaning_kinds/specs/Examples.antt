@@ -1,9 +1,9 @@
 -- Programs that come to a value of the wrong kind. So none of them is typed, and each breaks one rule of typing.
 use Rattle.std.specs.Prelude.{◌≡◌, false, List, [], ◌∷◌, Some, codes}
 use Rattle.c_words.specs.declared.operators.UnaryOperator.TheVariants.{Address, Dereference}
-use Rattle.c_typed.specs.Types.{CType}
-use Rattle.c_typed.specs.TypedTree.{CExpr, CForm, CStmt, CStmts, CLocal, CProgram}
-use Rattle.c_typed.specs.TypedLaws.{token, number, main_of}
+use Rattle.typed_tree.specs.Types.{CType}
+use Rattle.typed_tree.specs.TypedTree.{CExpr, CForm, CStmt, CStmts, CLocal, CProgram}
+use Rattle.typed_tree.specs.TypedLaws.{token, number, main_of}
 use Rattle.source_meaning.specs.declared.values.OutsideCause.TheVariants.{Kind}
 use Rattle.source_meaning.specs.declared.values.Ending.{Ending}
 use Rattle.source_meaning.specs.declared.values.Ending.TheVariants.{Outside}

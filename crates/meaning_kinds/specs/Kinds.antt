@@ -2,12 +2,12 @@
 -- read there is checked as it is read.
 use Rattle.std.specs.Prelude.{◌≡◌, ℕ, Bool, true, false, ◌||◌, IsTrue, List, [], ◌∷◌, Some, slice_get}
 use Rattle.bb_words.specs.Answers.{Goes, Ends}
-use Rattle.c_typed.specs.Types.{CType, IsNumber, IsPointer}
-use Rattle.c_typed.specs.TypedTree.{CExpr, CLocal, CFunction, CProgram, type_of}
-use Rattle.c_typed.specs.TypedOperands.{is_place, has_object}
-use Rattle.c_typed.specs.TypedRules.{prototype_of}
-use Rattle.c_typed.specs.Walk.{Sum, some_expr}
-use Rattle.c_typed.specs.Typed.{is_local, refers_to}
+use Rattle.typed_tree.specs.Types.{CType, IsNumber, IsPointer}
+use Rattle.typed_tree.specs.TypedTree.{CExpr, CLocal, CFunction, CProgram, type_of}
+use Rattle.typed_tree.specs.TypedOperands.{is_place, has_object}
+use Rattle.typed_tree.specs.TypedRules.{prototype_of}
+use Rattle.typed_tree.specs.Walk.{Sum, some_expr}
+use Rattle.typed_tree.specs.Typed.{is_local, refers_to}
 use Rattle.source_meaning.specs.declared.values.Value.{Value}
 use Rattle.source_meaning.specs.declared.values.Value.TheVariants.{Num, Ptr}
 use Rattle.source_meaning.specs.declared.values.Slot.{Slot}

@@ -1,9 +1,9 @@
 -- A typed program never comes to a value of the wrong kind.
 use Rattle.std.specs.Prelude.{◌≡◌, ℕ, Bool, List, Some, slice_get}
-use Rattle.c_typed.specs.TypedTree.{CExpr, CDeclaration, CStart, CStmt, CFunction, CProgram}
-use Rattle.c_typed.specs.Walk.{some_expr, over_declaration, over_start}
-use Rattle.c_typed.specs.TypedBody.{IsExpr, IsDeclaration, IsStart, IsStmt}
-use Rattle.c_typed.specs.Typed.{Typed, environment_of, refers_to, stmt_refers}
+use Rattle.typed_tree.specs.TypedTree.{CExpr, CDeclaration, CStart, CStmt, CFunction, CProgram}
+use Rattle.typed_tree.specs.Walk.{some_expr, over_declaration, over_start}
+use Rattle.typed_tree.specs.TypedBody.{IsExpr, IsDeclaration, IsStart, IsStmt}
+use Rattle.typed_tree.specs.Typed.{Typed, environment_of, refers_to, stmt_refers}
 use Rattle.source_meaning.specs.declared.values.Want.{Want}
 use Rattle.source_meaning.specs.declared.values.OutsideCause.TheVariants.{Kind}
 use Rattle.source_meaning.specs.declared.values.Ending.TheVariants.{Outside}

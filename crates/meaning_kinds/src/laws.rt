@@ -1,8 +1,9 @@
 //! Laws of the kinds of values.
 ghost use Rattle.meaning_kinds.specs.Examples.{UntypedComeThere};
-ghost use Rattle.meaning_kinds.specs.Laws.{TypedKeepsKinds, ProgramsKeepKinds, ExpressionsKeepKinds, StatementsKeepKinds, DeclarationsKeepKinds, StartsKeepKinds, BodiesReferToBlocks};
+ghost use Rattle.meaning_kinds.specs.Laws.{TypedKeepsKinds, ProgramsKeepKinds, ExpressionsKeepKinds, StatementsKeepKinds};
+ghost use Rattle.meaning_kinds.specs.Laws.{DeclarationsKeepKinds, StartsKeepKinds, BodiesReferToBlocks};
 
-use c_typed::typed_laws::aggregates_have_objects;
+use typed_tree::typed_laws::aggregates_have_objects;
 
 /// No run of a typed program ends with a value of the wrong kind.
 pub fn typed_keeps_kinds()

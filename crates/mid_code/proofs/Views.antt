@@ -6,7 +6,7 @@ use Rattle.bb_words.specs.declared.steps.Width.{Width}
 use Rattle.bb_words.specs.declared.steps.ArithOp.{ArithOp}
 use Rattle.bb_words.specs.declared.steps.DivideOp.{DivideOp}
 use Rattle.bb_words.specs.declared.steps.OrderOp.{OrderOp}
-use Rattle.c_typed.specs.declared.typed_expr.LibCall.{LibCall}
+use Rattle.typed_tree.specs.declared.typed_expr.LibCall.{LibCall}
 use Rattle.mid_code.specs.declared.code.MidObject.{MidObject}
 use Rattle.mid_code.specs.declared.code.MidStep.{MidStep, the_lemmas}
 use Rattle.mid_code.specs.declared.code.MidStep.TheVariants as code

@@ -7,7 +7,7 @@ use Rattle.bb_words.specs.declared.steps.DivideOp.{DivideOp}
 use Rattle.bb_words.specs.declared.steps.OrderOp.{OrderOp}
 use Rattle.block_layout.specs.Layout.{Item}
 use Rattle.block_layout.specs.Objects.{Stored}
-use Rattle.c_typed.specs.declared.typed_expr.LibCall.{LibCall}
+use Rattle.typed_tree.specs.declared.typed_expr.LibCall.{LibCall}
 use Rattle.mid_code.specs.declared.code.MidObject.{MidObject}
 
 mutual

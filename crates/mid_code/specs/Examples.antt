@@ -6,11 +6,12 @@ use Rattle.bb_words.specs.declared.steps.ArithOp.TheVariants as op
 use Rattle.bb_words.specs.declared.steps.DivideOp.TheVariants as divide
 use Rattle.bb_words.specs.declared.steps.Width.TheVariants as width
 use Rattle.block_layout.specs.Layout.{Item}
-use Rattle.c_typed.specs.declared.typed_expr.LibCall.TheVariants as lib
+use Rattle.typed_tree.specs.declared.typed_expr.LibCall.TheVariants as lib
 use Rattle.source_meaning.specs.declared.values.Ending.TheVariants.{Exited, Reported, Trapped, Outside, Cut}
 use Rattle.source_meaning.specs.declared.values.OutsideCause.TheVariants as cause
 use Rattle.mid_code.specs.declared.code.MidObject.TheVariants as object
-use Rattle.mid_code.specs.Code.{Step, Number, Arith, Divide, Named, Move, Load, Clear, Init, CopyBytes, Call, Library, If, Block, Loop, Exit, Return, stop, Function, Program}
+use Rattle.mid_code.specs.Code.{Step, Number, Arith, Divide, Named, Move, Load, Clear, Init, CopyBytes}
+use Rattle.mid_code.specs.Code.{Call, Library, If, Block, Loop, Exit, Return, stop, Function, Program}
 use Rattle.mid_code.specs.Meaning.{MidEnding, Came, Strayed, Watch, unwatched}
 use Rattle.mid_code.specs.Runs.{Outcome, outcome_of, mid}
 use Rattle.mid_code.specs.Views.{steps}
@@ -67,7 +68,8 @@ watches_first site = Some (object.Local 0)
 -- memory is freed and then read
 abbrev pub use_after_free : Program
 use_after_free = program (function 3 0 [] (
-    Number 0 10 ∷ Library 1 lib.Malloc (0 ∷ []) 1 None None ∷ Library 2 lib.Free (1 ∷ []) 1 None None ∷ Load 2 1 width.Byte 1 ∷ Return 2 ∷ []) ∷ [])
+    Number 0 10 ∷ Library 1 lib.Malloc (0 ∷ []) 1 None None ∷ Library 2 lib.Free (1 ∷ []) 1 None None ∷ Load 2 1 width.Byte 1 ∷ Return 2 ∷ [])
+    ∷ [])
 
 -- 16 bytes are copied to an object of 10 bytes
 abbrev pub long_copy : Program

@@ -1,18 +1,20 @@
 -- When mid code is well formed: all numbers are in range, each value that is read was set as what it is read as, and the
 -- sites of moves are numbered without gaps.
-use Rattle.std.specs.Prelude.{◌≡◌, ◌==◌, ℕ, suc, ◌+◌, ◌%◌, ◌<◌, ◌≤◌, true, if◌then◌else◌, All, List, [], ◌∷◌, ◌++◌, length, Option, Some, None, IsSome, slice_get, slice_index_or, ℤ}
+use Rattle.std.specs.Prelude.{◌≡◌, ◌==◌, ℕ, suc, ◌+◌, ◌%◌, ◌<◌, ◌≤◌, true, if◌then◌else◌, All}
+use Rattle.std.specs.Prelude.{List, [], ◌∷◌, ◌++◌, length, Option, Some, None, IsSome, slice_get, slice_index_or, ℤ}
 use Rattle.bb_words.specs.Numbers.{signed}
 use Rattle.bb_words.specs.Steps.{size_of_width}
 use Rattle.block_layout.specs.Layout.{Item}
 use Rattle.block_layout.specs.Objects.{Stored}
-use Rattle.c_typed.specs.declared.typed.GlobalObject.TheVariants as global
-use Rattle.c_typed.specs.declared.typed.InitialByte.{InitialByte}
-use Rattle.c_typed.specs.declared.typed.InitialByte.TheVariants as initial
-use Rattle.c_typed.specs.declared.typed_expr.LibCall.{LibCall}
-use Rattle.c_typed.specs.declared.typed_expr.LibCall.TheVariants as lib
+use Rattle.typed_tree.specs.declared.typed.GlobalObject.TheVariants as global
+use Rattle.typed_tree.specs.declared.typed.InitialByte.{InitialByte}
+use Rattle.typed_tree.specs.declared.typed.InitialByte.TheVariants as initial
+use Rattle.typed_tree.specs.declared.typed_expr.LibCall.{LibCall}
+use Rattle.typed_tree.specs.declared.typed_expr.LibCall.TheVariants as lib
 use Rattle.mid_code.specs.declared.code.MidObject.{MidObject}
 use Rattle.mid_code.specs.declared.code.MidObject.TheVariants as object
-use Rattle.mid_code.specs.Code.{Step, Number, NullPtr, Same, Arith, Divide, Named, Move, MoveBy, Load, Store, Clear, Init, CopyBytes, PtrSame, PtrOrder, PtrDiff, Call, Library, If, Block, Loop, Exit, Return, LineMark, Steps, stop, step, Function, Program}
+use Rattle.mid_code.specs.Code.{Step, Number, NullPtr, Same, Arith, Divide, Named, Move, MoveBy, Load, Store, Clear, Init, CopyBytes, PtrSame}
+use Rattle.mid_code.specs.Code.{PtrOrder, PtrDiff, Call, Library, If, Block, Loop, Exit, Return, LineMark, Steps, stop, step, Function, Program}
 use Rattle.mid_code.specs.Kinds.{IsNumber, Unknown, Kinds, Signature, AreKinds, falls_all}
 
 -- ---- Ranges

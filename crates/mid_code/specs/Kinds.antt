@@ -1,11 +1,13 @@
 -- Which values are numbers and which are pointers, on every path through a function. A path is one of the structure alone:
 -- either branch of an If may be taken, and a Loop may make any number of turns.
-use Rattle.std.specs.Prelude.{◌≡◌, ◌≢◌, ◌==◌, ◌⊎◌, ℕ, zero, suc, Bool, true, false, ◌&&◌, ◌||◌, if◌then◌else◌, List, [], ◌∷◌, map, Some, slice_get}
+use Rattle.std.specs.Prelude.{◌≡◌, ◌≢◌, ◌==◌, ◌⊎◌, ℕ, zero, suc, Bool, true, false}
+use Rattle.std.specs.Prelude.{◌&&◌, ◌||◌, if◌then◌else◌, List, [], ◌∷◌, map, Some, slice_get}
 use Rattle.bb_words.specs.declared.steps.Width.{Width}
 use Rattle.bb_words.specs.declared.steps.Width.TheVariants as width
-use Rattle.c_typed.specs.declared.typed_expr.LibCall.{LibCall}
-use Rattle.c_typed.specs.declared.typed_expr.LibCall.TheVariants as lib
-use Rattle.mid_code.specs.Code.{Step, Number, NullPtr, Same, Arith, Divide, Named, Move, MoveBy, Load, Store, Clear, Init, CopyBytes, PtrSame, PtrOrder, PtrDiff, Call, Library, If, Block, Loop, Exit, Return, LineMark, Steps, stop, step}
+use Rattle.typed_tree.specs.declared.typed_expr.LibCall.{LibCall}
+use Rattle.typed_tree.specs.declared.typed_expr.LibCall.TheVariants as lib
+use Rattle.mid_code.specs.Code.{Step, Number, NullPtr, Same, Arith, Divide, Named, Move, MoveBy, Load, Store, Clear, Init, CopyBytes}
+use Rattle.mid_code.specs.Code.{PtrSame, PtrOrder, PtrDiff, Call, Library, If, Block, Loop, Exit, Return, LineMark, Steps, stop, step}
 
 -- what a value was last set as; Unknown where that differs from path to path
 pub data Kind : Type 0 where

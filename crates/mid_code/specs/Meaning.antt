@@ -1,5 +1,6 @@
 -- The meaning of mid code. Its steps do what the operations on the world do that the meaning of C does.
-use Rattle.std.specs.Prelude.{◌==◌, ℕ, zero, suc, ◌+◌, ◌-◌, ◌*◌, ◌%◌, ◌^◌, Bool, true, false, ◌&&◌, nat_lt, if◌then◌else◌, List, map, Option, Some, None, ℤ, pos, negsuc, ◌+ℤ◌}
+use Rattle.std.specs.Prelude.{◌==◌, ℕ, zero, suc, ◌+◌, ◌-◌, ◌*◌, ◌%◌, ◌^◌, Bool, true, false, ◌&&◌}
+use Rattle.std.specs.Prelude.{nat_lt, if◌then◌else◌, List, map, Option, Some, None, ℤ, pos, negsuc, ◌+ℤ◌}
 use Rattle.bb_words.specs.Answers.{Answer, Goes, Ends, and_then, either}
 use Rattle.bb_words.specs.Steps.{arith, divided}
 use Rattle.block_layout.specs.Layout.{Placed, position_of}
@@ -18,7 +19,8 @@ use Rattle.source_meaning.specs.Accounts.{library}
 use Rattle.source_meaning.specs.Numbers.{unless_zero}
 use Rattle.mid_code.specs.declared.code.MidObject.{MidObject}
 use Rattle.mid_code.specs.declared.code.MidObject.TheVariants as object
-use Rattle.mid_code.specs.Code.{Step, Number, NullPtr, Same, Arith, Divide, Named, Move, MoveBy, Load, Store, Clear, Init, CopyBytes, PtrSame, PtrOrder, PtrDiff, Call, Library, If, Block, Loop, Exit, Return, LineMark, Steps, stop, step}
+use Rattle.mid_code.specs.Code.{Step, Number, NullPtr, Same, Arith, Divide, Named, Move, MoveBy, Load, Store, Clear, Init, CopyBytes}
+use Rattle.mid_code.specs.Code.{PtrSame, PtrOrder, PtrDiff, Call, Library, If, Block, Loop, Exit, Return, LineMark, Steps, stop, step}
 use Rattle.mid_code.specs.Times.{charge, turn_charge, byte_charge}
 
 -- How a run of mid code ends: as the meaning of C has it, or because a move that is watched left its object.

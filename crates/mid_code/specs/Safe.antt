@@ -1,5 +1,6 @@
 -- Moves that are taken as safe: sites, each with the object that its moves stay in.
-use Rattle.std.specs.Prelude.{◌≡◌, ◌≢◌, ◌==◌, ◌⊎◌, ℕ, suc, ◌<◌, ◌≤◌, if◌then◌else◌, All, List, [], ◌∷◌, Some, None, slice_get}
+use Rattle.std.specs.Prelude.{◌≡◌, ◌≢◌, ◌==◌, ◌⊎◌, ℕ, suc, ◌<◌, ◌≤◌}
+use Rattle.std.specs.Prelude.{if◌then◌else◌, All, List, [], ◌∷◌, Some, None, slice_get}
 use Rattle.mid_code.specs.declared.code.MidObject.{MidObject}
 use Rattle.mid_code.specs.declared.safe.SafeSite.{SafeSite}
 use Rattle.mid_code.specs.Code.{Step, Move, MoveBy, If, Block, Loop, Steps, stop, step, Function, Program}

@@ -1,9 +1,10 @@
 -- How many machine instructions each step of mid code may take, at most. They are counted before the step is done, and
 -- those of a loop at the beginning of each turn; for each byte that is copied, set or cleared come 64 more.
 use Rattle.std.specs.Prelude.{ℕ, ◌+◌, ◌*◌}
-use Rattle.c_typed.specs.declared.typed_expr.LibCall.{LibCall}
-use Rattle.c_typed.specs.declared.typed_expr.LibCall.TheVariants as lib
-use Rattle.mid_code.specs.Code.{Step, Number, NullPtr, Same, Arith, Divide, Named, Move, MoveBy, Load, Store, Clear, Init, CopyBytes, PtrSame, PtrOrder, PtrDiff, Call, Library, If, Block, Loop, Exit, Return, LineMark, Function}
+use Rattle.typed_tree.specs.declared.typed_expr.LibCall.{LibCall}
+use Rattle.typed_tree.specs.declared.typed_expr.LibCall.TheVariants as lib
+use Rattle.mid_code.specs.Code.{Step, Number, NullPtr, Same, Arith, Divide, Named, Move, MoveBy, Load, Store, Clear, Init, CopyBytes}
+use Rattle.mid_code.specs.Code.{PtrSame, PtrOrder, PtrDiff, Call, Library, If, Block, Loop, Exit, Return, LineMark, Function}
 
 -- a call that works on a range has two spans to check
 abbrev pub library_charge : LibCall → ℕ

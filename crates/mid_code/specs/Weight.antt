@@ -6,7 +6,8 @@
 use Rattle.std.specs.Prelude.{ℕ, ◌+◌, List, [], ◌∷◌}
 use Rattle.bb_words.specs.declared.steps.Width.{Width}
 use Rattle.bb_words.specs.declared.steps.Width.TheVariants as width
-use Rattle.mid_code.specs.Code.{Step, Number, NullPtr, Same, Arith, Divide, Named, Move, MoveBy, Load, Store, Clear, Init, CopyBytes, PtrSame, PtrOrder, PtrDiff, Call, Library, If, Block, Loop, Exit, Return, LineMark, Steps, stop, step, Function, Program}
+use Rattle.mid_code.specs.Code.{Step, Number, NullPtr, Same, Arith, Divide, Named, Move, MoveBy, Load, Store, Clear, Init, CopyBytes, PtrSame}
+use Rattle.mid_code.specs.Code.{PtrOrder, PtrDiff, Call, Library, If, Block, Loop, Exit, Return, LineMark, Steps, stop, step, Function, Program}
 
 -- the load of a number has no check
 abbrev pub weight_of_load : Width → ℕ

@@ -4,8 +4,8 @@ ghost use Rattle.std.specs.Prelude.{◌≡◌};
 use bb_words::list::List;
 use bb_words::steps::{ArithOp, DivideOp, OrderOp, Width};
 use bb_words::word::Word;
-use c_typed::typed::InitialByte;
-use c_typed::typed_expr::LibCall;
+use typed_tree::typed::InitialByte;
+use typed_tree::typed_expr::LibCall;
 
 /// An object that has a name: a global one, by its number, the named ones first and then the strings, or a block local of
 /// the running function, by its number among the function's locals.

@@ -6,8 +6,8 @@ use Rattle.bb_words.specs.Answers.{and_then}
 use Rattle.bb_words.specs.Numbers.{signed_below, signed_quotient, signed_remainder, signed_right_shift}
 use Rattle.block_layout.specs.Layout.{layout}
 use Rattle.size_table.specs.Pads.{exponent_of}
-use Rattle.c_typed.specs.Counts.{values_of}
-use Rattle.c_typed.specs.TypedLaws.{many_locals}
+use Rattle.typed_tree.specs.Counts.{values_of}
+use Rattle.typed_tree.specs.TypedLaws.{many_locals}
 use Rattle.flat_code.specs.Run.{inner_turns}
 use Rattle.middle_tests.specs.Examples.{Examples, Limits}
 

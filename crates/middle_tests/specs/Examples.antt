@@ -6,30 +6,31 @@ use Rattle.c_words.specs.declared.operators.StepOperator.TheVariants.{Increment,
 use Rattle.c_words.specs.declared.operators.BinaryOperator.TheVariants as op
 use Rattle.c_words.specs.declared.operators.UnaryOperator.TheVariants.{Not}
 use Rattle.c_words.specs.declared.operators.AssignOperator.TheVariants as assign
-use Rattle.c_typed.specs.declared.typed_expr.Called.TheVariants.{Defined, Library}
-use Rattle.c_typed.specs.declared.typed_expr.LibCall.TheVariants.{Putchar}
-use Rattle.c_typed.specs.Counts.{nodes_of_program}
-use Rattle.c_typed.specs.Types.CType.{Char, Int}
-use Rattle.c_typed.specs.TypedTree.{CExpr, CInitial, CStmt, CProgram}
-use Rattle.c_typed.specs.TypedTree.CForm.{Local, Number, Call, StepBefore, StepAfter, Unary, Binary, Conditional, Assign, Comma}
-use Rattle.c_typed.specs.TypedTree.CStmt.{Block, Declare, Empty, Return}
-use Rattle.c_typed.specs.TypedLaws.{forty_two, many_locals}
+use Rattle.typed_tree.specs.declared.typed_expr.Called.TheVariants.{Defined, Library}
+use Rattle.typed_tree.specs.declared.typed_expr.LibCall.TheVariants.{Putchar}
+use Rattle.typed_tree.specs.Counts.{nodes_of_program}
+use Rattle.typed_tree.specs.Types.CType.{Char, Int}
+use Rattle.typed_tree.specs.TypedTree.{CExpr, CInitial, CStmt, CProgram}
+use Rattle.typed_tree.specs.TypedTree.CForm.{Local, Number, Call, StepBefore, StepAfter, Unary, Binary, Conditional, Assign, Comma}
+use Rattle.typed_tree.specs.TypedTree.CStmt.{Block, Declare, Empty, Return}
+use Rattle.typed_tree.specs.TypedLaws.{forty_two, many_locals}
 use Rattle.source_meaning.specs.declared.values.Ending.{Ending}
 use Rattle.source_meaning.specs.declared.values.Ending.TheVariants as source
-use Rattle.source_meaning.specs.Examples.{on, here, e_on, e, number, local, named, as_number, does, gives, declared, declares_with, starts, given, block, variable, small_variable, function, program, main_of}
+use Rattle.source_meaning.specs.Examples.{on, here, e_on, e, number, local, named, as_number, does, gives, declared, declares_with}
+use Rattle.source_meaning.specs.Examples.{starts, given, block, variable, small_variable, function, program, main_of}
 use Rattle.source_meaning.specs.ExamplesCalls.{conversions, quotients, jumps, do_is_cut, call_is_cut, echo}
 use Rattle.mid_code.specs.Code.{Program}
 use Rattle.mid_code.specs.Meaning.{MidEnding, Came}
 use Rattle.mid_code.specs.Runs as mid
 use Rattle.flat_code.specs.World as flat
-use Rattle.flat_code.specs.Examples.{shown}
+use Rattle.flat_code_laws.specs.Examples.{shown}
 use Rattle.flat_code.specs.Run.{flat_run}
 use Rattle.flat_code.specs.Told.{output_of}
-use Rattle.lowering.specs.Built as lowering
-use Rattle.lowering.specs.Lower.{lowered}
-use Rattle.lowering.specs.Lowers.{IsFirstFull}
-use Rattle.bounds_instr.specs.Built as instr
-use Rattle.bounds_instr.specs.Code.{instrumented, global_blocks, frames_of}
+use Rattle.lowering_counts.specs.Built as lowering
+use Rattle.lowering_code.specs.Lower.{lowered}
+use Rattle.lowering_counts.specs.Limits.{IsFirstFull}
+use Rattle.bounds_instr_code.specs.Built as instr
+use Rattle.bounds_instr_code.specs.Code.{instrumented, global_blocks, frames_of}
 
 -- ---- Runs
 

@@ -1,17 +1,12 @@
 //! A program goes from its typed tree to mid code and to flat code, and that is verified, where memory is not wanting.
 ghost use Rattle.std.specs.Prelude.{◌≡◌, [], IfOk, codes};
-ghost use Rattle.c_typed.specs.TypedLaws as laws;
-ghost use Rattle.c_typed.specs.TypedViews.{stmt_of, program_of};
+ghost use Rattle.typed_tree.specs.TypedLaws as laws;
+ghost use Rattle.typed_tree.specs.TypedViews.{stmt_of, program_of};
 
 use bb_words::list::List;
 use bb_words::steps::Width;
 use bb_words::word::Word;
 use bounds_instr::instrument::instrument;
-use c_typed::typed::{Function, Program};
-use c_typed::typed_expr::{TypedExpr, TypedForm};
-use c_typed::typed_laws;
-use c_typed::typed_stmt::TypedStmt;
-use c_typed::types::Ty;
 use c_words::place::{At, Name};
 use flat_code::code::{Flat, FlatFunction, FlatStep};
 use flat_verify::error::VerifyError;
@@ -20,9 +15,14 @@ use flat_verify::verify::verify;
 use lowering::lower::lower;
 use std::alloc::{AllocError, Global};
 use std::test::Fail;
+use typed_tree::typed::{Function, Program};
+use typed_tree::typed_expr::{TypedExpr, TypedForm};
+use typed_tree::typed_laws;
+use typed_tree::typed_stmt::TypedStmt;
+use typed_tree::types::Ty;
 
 /// `{return 42;}`
-#[tactic(auto, using(c_typed::proofs::TypedViewed::typed_views))]
+#[tactic(auto, using(typed_tree::proofs::TypedViewed::typed_views))]
 fn body(alloc: Global) -> Result<TypedStmt, Fail>
     ensures { IfOk result (λ s. stmt_of s ≡ (laws.main_function [] (laws.return_number 42)).body) }
 {

@@ -4,18 +4,18 @@ use Rattle.std.proofs.Common.{◌≡◌, ℕ, true, List, Option, Some, None, re
 use Rattle.std.proofs.lemmas.Bool.{true≢false, and_parts}
 use Rattle.std.proofs.lemmas.Option.{none-some, same_Some, slice_get-map}
 use Rattle.std.specs.Option.{option_map}
-use Rattle.c_typed.specs.TypedTree.{CProgram}
-use Rattle.c_typed.specs.declared.typed_expr.LibCall.{LibCall}
-use Rattle.c_typed.specs.declared.typed_expr.LibCall.TheVariants as lib
+use Rattle.typed_tree.specs.TypedTree.{CProgram}
+use Rattle.typed_tree.specs.declared.typed_expr.LibCall.{LibCall}
+use Rattle.typed_tree.specs.declared.typed_expr.LibCall.TheVariants as lib
 use Rattle.mid_code.specs.Code.{Step, Steps, Function, Program}
 use Rattle.mid_code.specs.Code.Steps.{stop, step as next}
 use Rattle.flat_code.specs.Code.{FSteps, FFunction, none, more, ◌+++◌}
-use Rattle.lowering.specs.Built as lowering
-use Rattle.lowering.specs.Built.{is_of_numbers}
-use Rattle.lowering.specs.Lower.{lowered}
-use Rattle.bounds_instr.specs.Built.{is_none}
-use Rattle.bounds_instr.specs.Code.{library_code, step_code, code, function_code, instrumented}
-use Rattle.select_runs.specs.InReach.{AreCalm}
+use Rattle.lowering_counts.specs.Built as lowering
+use Rattle.lowering_counts.specs.Built.{is_of_numbers}
+use Rattle.lowering_code.specs.Lower.{lowered}
+use Rattle.bounds_instr_code.specs.Built.{is_none}
+use Rattle.bounds_instr_code.specs.Code.{library_code, step_code, code, function_code, instrumented}
+use Rattle.select_scope.specs.InReach.{AreCalm}
 use Rattle.number_code.specs.Laws.{CodeIsCalm}
 use Rattle.number_code.proofs.OfNumbers.{of_numbers, all_of_numbers, functions_of_numbers, body_of}
 use Rattle.number_code.proofs.CodeNumbers.{code_numbers}

@@ -12,19 +12,19 @@ use Rattle.c_words.specs.declared.operators.BinaryOperator.{BinaryOperator}
 use Rattle.c_words.specs.declared.operators.BinaryOperator.TheVariants as op
 use Rattle.c_words.specs.declared.operators.AssignOperator.{AssignOperator}
 use Rattle.c_words.specs.declared.operators.AssignOperator.TheVariants as assign
-use Rattle.c_typed.specs.declared.typed_expr.Called.{Called}
-use Rattle.c_typed.specs.declared.typed_expr.Called.TheVariants.{Defined, Library}
-use Rattle.c_typed.specs.Types.{CType, is_unsigned}
-use Rattle.c_typed.specs.TypedTree.{CExpr, CForm, CExprs, CInitial, CInitializer, CDeclaration, CStart, CStmt, CStmts, CStruct, CLocal, CFunction, CProgram, type_of}
-use Rattle.c_typed.specs.Walk.{walked_all, all_of, every_expr, over_initial, over_initializer, over_declarations, over_start, over_expr_if_any, over_stmt, over_stmts}
+use Rattle.typed_tree.specs.declared.typed_expr.Called.{Called}
+use Rattle.typed_tree.specs.declared.typed_expr.Called.TheVariants.{Defined, Library}
+use Rattle.typed_tree.specs.Types.{CType, is_unsigned}
+use Rattle.typed_tree.specs.TypedTree.{CExpr, CForm, CExprs, CInitial, CInitializer, CDeclaration, CStart, CStmt, CStmts, CStruct, CLocal, CFunction, CProgram, type_of}
+use Rattle.typed_tree.specs.Walk.{walked_all, all_of, every_expr, over_initial, over_initializer, over_declarations, over_start, over_expr_if_any, over_stmt, over_stmts}
 use Rattle.source_meaning.specs.Operators.{binary_of, is_shift}
 use Rattle.mid_code.specs.Code.{Step, Steps, append}
 use Rattle.mid_code.specs.Code.Steps.{stop, step as more}
-use Rattle.lowering.specs.Built as lowering
-use Rattle.lowering.specs.Built.{has_pointer, is_called, is_built_expr}
-use Rattle.lowering.specs.Lower.{only, operation, fitting, casting, flagged, one_operand, stepping, compound, binary_steps, second_at, assign_steps, right_at, local_of, places, calling, code, all_code, code_if_any, leaving, test_code, initial_code, initializer_code, declarations_code, start_code, return_code, stmt_code, stmts_code, function_code, lowered}
-use Rattle.lowering.specs.Room as room
-use Rattle.bounds_instr.specs.Built.{is_none}
+use Rattle.lowering_counts.specs.Built as lowering
+use Rattle.lowering_counts.specs.Built.{has_pointer, is_called, is_built_expr}
+use Rattle.lowering_code.specs.Lower.{only, operation, fitting, casting, flagged, one_operand, stepping, compound, binary_steps, second_at, assign_steps, right_at, local_of, places, calling, code, all_code, code_if_any, leaving, test_code, initial_code, initializer_code, declarations_code, start_code, return_code, stmt_code, stmts_code, function_code, lowered}
+use Rattle.lowering_counts.specs.Room as room
+use Rattle.bounds_instr_code.specs.Built.{is_none}
 use Rattle.number_code.proofs.OfNumbers.{both, of_numbers, all_of_numbers, functions_of_numbers, program_of_numbers}
 
 abbrev Good : Steps → Type 0

@@ -3,16 +3,16 @@ use Rattle.std.specs.Prelude.{All}
 use Rattle.std.proofs.Common.{◌≡◌, ℕ, suc, ◌+◌, ◌<◌, ◌≤◌, true, List, [], ◌∷◌, length, Option, Some, refl, sym, arith}
 use Rattle.std.proofs.lemmas.Bool.{true≢false, and_parts}
 use Rattle.std.proofs.lemmas.List.Elements.{All-head, All-tail}
-use Rattle.c_typed.specs.declared.typed_expr.LibCall.{LibCall}
-use Rattle.c_typed.specs.declared.typed_expr.LibCall.TheVariants as lib
+use Rattle.typed_tree.specs.declared.typed_expr.LibCall.{LibCall}
+use Rattle.typed_tree.specs.declared.typed_expr.LibCall.TheVariants as lib
 use Rattle.mid_code.specs.Code.{Step, Steps, Function, Program}
 use Rattle.mid_code.specs.Code.Steps.{stop, step as next}
 use Rattle.mid_code.specs.Formed.{IsCallOf, IsInRange, AreInRange}
 use Rattle.flat_code.specs.Code.{FSteps, none, more, ◌+++◌}
-use Rattle.flat_verify.specs.Laws.{ArePlainly}
-use Rattle.lowering.specs.Built.{is_of_numbers}
-use Rattle.bounds_instr.specs.Code.{first_of, library_code, step_code, code}
-use Rattle.select_runs.specs.Fits.{AreValues, FitItems}
+use Rattle.flat_discipline.specs.Laws.{ArePlainly}
+use Rattle.lowering_counts.specs.Built.{is_of_numbers}
+use Rattle.bounds_instr_code.specs.Code.{first_of, library_code, step_code, code}
+use Rattle.select_scope.specs.Fits.{AreValues, FitItems}
 use Rattle.number_code.proofs.OfNumbers.{of_numbers, all_of_numbers}
 use Rattle.number_code.proofs.FlatItems.{plain_items}
 

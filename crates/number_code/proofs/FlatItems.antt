@@ -1,8 +1,8 @@
 -- Flat code without sequences, item by item.
 use Rattle.std.proofs.Common.{◌≡◌, ℕ, refl, ap, ◌∙◌, sym}
 use Rattle.flat_code.specs.Code.{FStep, FSteps, none, more, ◌+++◌}
-use Rattle.flat_verify.specs.Items.{Item, Items, item_steps, all_steps, items_of}
-use Rattle.flat_verify.specs.Laws.{PlainItemsAreRead, ArePlainly}
+use Rattle.flat_discipline.specs.Items.{Item, Items, item_steps, all_steps, items_of}
+use Rattle.flat_discipline.specs.Laws.{PlainItemsAreRead, ArePlainly}
 
 abbrev mutual
   -- each step is an item

@@ -5,16 +5,16 @@ use Rattle.std.proofs.lemmas.Bool.{true≢false, and_parts}
 use Rattle.std.proofs.lemmas.List.Elements.{All-nil, All-cons}
 use Rattle.std.proofs.lemmas.Option.{none-some, same_Some}
 use Rattle.block_layout.specs.Layout.{AreSmall, layout, declining, placed_from}
-use Rattle.c_typed.specs.declared.typed_expr.LibCall.{LibCall}
-use Rattle.c_typed.specs.declared.typed_expr.LibCall.TheVariants as lib
+use Rattle.typed_tree.specs.declared.typed_expr.LibCall.{LibCall}
+use Rattle.typed_tree.specs.declared.typed_expr.LibCall.TheVariants as lib
 use Rattle.source_meaning.specs.Start.{start_world, laid_out}
 use Rattle.source_meaning.specs.Worlds.{live_blocks}
 use Rattle.mid_code.specs.Code.{Step, Steps, Function, Program}
 use Rattle.mid_code.specs.Code.Steps.{stop, step as more}
 use Rattle.injection.specs.Laws.{exponents}
-use Rattle.lowering.specs.Built.{is_of_numbers}
-use Rattle.bounds_instr.specs.Built.{is_of_environment, is_built_step, are_built_steps, IsBuiltFunction, IsBuilt, is_none, is_built_function, are_built_functions, is_built}
-use Rattle.bounds_instr.specs.Code.{frame_of}
+use Rattle.lowering_counts.specs.Built.{is_of_numbers}
+use Rattle.bounds_instr_code.specs.Built.{is_of_environment, is_built_step, are_built_steps, IsBuiltFunction, IsBuilt, is_none, is_built_function, are_built_functions, is_built}
+use Rattle.bounds_instr_code.specs.Code.{frame_of}
 use Rattle.number_code.specs.Laws.{IsFrameless}
 
 pub both : (a b : Bool) → a ≡ true → b ≡ true → (a && b) ≡ true

@@ -5,17 +5,17 @@ use Rattle.std.proofs.lemmas.Bool.{and_parts}
 use Rattle.std.proofs.lemmas.List.{length-map}
 use Rattle.std.proofs.lemmas.Option.{none-some, same_Some, slice_get-map, slice_get_within}
 use Rattle.std.specs.Option.{option_map}
-use Rattle.c_typed.specs.TypedTree.{CProgram}
-use Rattle.c_typed.specs.Typed.{Typed}
+use Rattle.typed_tree.specs.TypedTree.{CProgram}
+use Rattle.typed_tree.specs.Typed.{Typed}
 use Rattle.mid_code.specs.Code.{Function, Program}
 use Rattle.mid_code.specs.Kinds.{Signature}
 use Rattle.mid_code.specs.Formed.{IsCallOf, IsFunction, AreFunctions, Formed}
-use Rattle.flat_verify.specs.Laws.{PlainItemsAreRead}
-use Rattle.bounds_instr.specs.Built.{is_none}
-use Rattle.lowering.specs.Lower as lower
-use Rattle.lowering.specs.Lower.{lowered}
-use Rattle.bounds_instr.specs.Code.{code, function_code, instrumented}
-use Rattle.select_runs.specs.Fits.{FunctionsFit, HasMain, FitItems, FitsFunction, params_of}
+use Rattle.flat_discipline.specs.Laws.{PlainItemsAreRead}
+use Rattle.bounds_instr_code.specs.Built.{is_none}
+use Rattle.lowering_code.specs.Lower as lower
+use Rattle.lowering_code.specs.Lower.{lowered}
+use Rattle.bounds_instr_code.specs.Code.{code, function_code, instrumented}
+use Rattle.select_scope.specs.Fits.{FunctionsFit, HasMain, FitItems, FitsFunction, params_of}
 use Rattle.number_code.specs.Laws.{CodeFits}
 use Rattle.number_code.proofs.OfNumbers.{functions_of_numbers, body_of}
 use Rattle.number_code.proofs.CodeNumbers.{code_numbers}

@@ -1,16 +1,16 @@
 -- The laws of the code of programs of numbers, from the typed tree to flat code.
 use Rattle.std.specs.Prelude.{◌≡◌, ℕ, true, [], length, replicate, Some, slice_get}
 use Rattle.flat_code.specs.Code.{FFunction}
-use Rattle.c_typed.specs.TypedTree.{CProgram}
-use Rattle.c_typed.specs.Typed.{Typed}
+use Rattle.typed_tree.specs.TypedTree.{CProgram}
+use Rattle.typed_tree.specs.Typed.{Typed}
 use Rattle.mid_code.specs.Code.{Program}
 use Rattle.mid_code.specs.Formed.{Formed}
-use Rattle.lowering.specs.Built as lowering
-use Rattle.lowering.specs.Lower.{lowered}
-use Rattle.bounds_instr.specs.Built as instr
-use Rattle.bounds_instr.specs.Code.{instrumented, global_blocks, frames_of}
-use Rattle.select_runs.specs.Fits.{FunctionsFit, HasMain}
-use Rattle.select_runs.specs.InReach.{AreCalm}
+use Rattle.lowering_counts.specs.Built as lowering
+use Rattle.lowering_code.specs.Lower.{lowered}
+use Rattle.bounds_instr_code.specs.Built as instr
+use Rattle.bounds_instr_code.specs.Code.{instrumented, global_blocks, frames_of}
+use Rattle.select_scope.specs.Fits.{FunctionsFit, HasMain}
+use Rattle.select_scope.specs.InReach.{AreCalm}
 
 -- The mid code of a program of numbers is built: where there is mid code, there is flat code.
 abbrev pub CodeIsBuilt : Type 0
@@ -23,7 +23,8 @@ CodeFits = (p : CProgram) → Typed p → lowering.IsBuilt p → Formed (lowered
 
 -- And none of its steps accesses memory, or looks into the size table.
 abbrev pub CodeIsCalm : Type 0
-CodeIsCalm = (g : ℕ) (p : CProgram) → lowering.IsBuilt p → (number : ℕ) (f : FFunction) → slice_get (instrumented g (lowered p)).functions number ≡ Some f → AreCalm f.body
+CodeIsCalm = (g : ℕ) (p : CProgram) → lowering.IsBuilt p → (number : ℕ) (f : FFunction)
+    → slice_get (instrumented g (lowered p)).functions number ≡ Some f → AreCalm f.body
 
 -- The first function that is called is there, and has no parameters.
 abbrev pub MainFits : Type 0

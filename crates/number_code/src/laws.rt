@@ -10,7 +10,7 @@ pub fn code_is_built()
 pub fn code_fits()
     ensures { CodeFits }
 {
-    flat_verify::laws::plain_items_are_read();
+    flat_discipline::laws::plain_items_are_read();
 }
 
 /// None of its steps accesses memory, or looks into the size table.

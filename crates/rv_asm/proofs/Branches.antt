@@ -7,7 +7,7 @@ use Rattle.rv_code.specs.declared.instr.Instr.{Instr}
 use Rattle.rv_machine.specs.State.{Core, register_of, set_register}
 use Rattle.rv_machine.specs.Instruction.{Goes, jumps, branches, effect, event_of}
 use Rattle.rv_machine.specs.Environment.{World}
-use Rattle.rv_machine.specs.Laws.{InstructionDone}
+use Rattle.rv_machine_laws.specs.Laws.{InstructionDone}
 use Rattle.rv_machine.specs.Machine.{step}
 use Rattle.rv_asm.specs.declared.parts.BranchOp.{BranchOp}
 use Rattle.rv_asm.specs.declared.parts.BranchOp.TheVariants as op

@@ -13,7 +13,7 @@ use Rattle.rv_machine.specs.State.{Core, register_of, set_register, gives, with_
 use Rattle.rv_machine.specs.Instruction.{Goes, even, jumps, effect, event_of}
 use Rattle.rv_machine.specs.Environment.{World}
 use Rattle.rv_machine.specs.Formed.{IsCore, IsWord}
-use Rattle.rv_machine.specs.Laws.{InstructionDone}
+use Rattle.rv_machine_laws.specs.Laws.{InstructionDone}
 use Rattle.rv_machine.specs.Machine.{step, steps}
 use Rattle.rv_asm.specs.Runs.{IsAt, Takes, at_place, gone, calls_if}
 use Rattle.rv_asm.specs.Text.{distance, upper_part, lower_part, in_reach, long_jump, jump_code}

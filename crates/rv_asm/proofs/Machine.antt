@@ -7,7 +7,7 @@ use Rattle.size_table.specs.Memory.{word_at, Stand}
 use Rattle.rv_machine.specs.State.{Core}
 use Rattle.rv_machine.specs.Instruction.{Act, Goes, core_step, core_events, effect, event_of}
 use Rattle.rv_machine.specs.Environment.{World}
-use Rattle.rv_machine.specs.Laws.{InstructionDone}
+use Rattle.rv_machine_laws.specs.Laws.{InstructionDone}
 use Rattle.rv_machine.specs.Machine.{step, steps, acted}
 use Rattle.rv_asm.specs.Runs.{IsCoreAt, IsAt, IsDone, gone}
 

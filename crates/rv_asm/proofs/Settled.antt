@@ -7,7 +7,7 @@ use Rattle.rv_code.specs.Code.{word_of}
 use Rattle.rv_code.specs.declared.instr.Instr.TheVariants.{Lui}
 use Rattle.size_table.specs.Memory.{Stand}
 use Rattle.rv_machine.specs.Formed.{IsWord}
-use Rattle.rv_machine.specs.Laws.{InstructionDone}
+use Rattle.rv_machine_laws.specs.Laws.{InstructionDone}
 use Rattle.rv_asm.specs.declared.parts.Part.{Part}
 use Rattle.rv_asm.specs.declared.parts.Part.TheVariants.{Plain, Label, Branch, Jump}
 use Rattle.rv_asm.specs.Parts.{FitsPart, GoesOnce, AreParts}

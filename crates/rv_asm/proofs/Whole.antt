@@ -7,7 +7,7 @@ use Rattle.rv_code.specs.declared.instr.Instr.TheVariants.{Jal}
 use Rattle.size_table.specs.Memory.{Stand}
 use Rattle.rv_machine.specs.State.{register_of}
 use Rattle.rv_machine.specs.Environment.{World}
-use Rattle.rv_machine.specs.Laws.{InstructionDone}
+use Rattle.rv_machine_laws.specs.Laws.{InstructionDone}
 use Rattle.rv_asm.specs.declared.parts.BranchOp.{BranchOp}
 use Rattle.rv_asm.specs.declared.parts.Part.{Part}
 use Rattle.rv_asm.specs.declared.parts.Part.TheVariants.{Plain, Label, Branch, Jump}

@@ -1,7 +1,8 @@
 -- The words of parts, each branch and jump in the shortest form that reaches its label.
 -- RISC-V Unprivileged ISA, chapter "RV32I": a branch reaches 4 KiB and JAL 1 MiB in either direction; AUIPC and JALR
 -- together reach every place.
-use Rattle.std.specs.Prelude.{ℕ, ◌+◌, ◌-◌, ◌*◌, ◌/◌, ◌%◌, ◌^◌, Bool, nat_lt, nat_le, ◌&&◌, if◌then◌else◌, List, [], ◌∷◌, ◌++◌, length, map}
+use Rattle.std.specs.Prelude.{ℕ, ◌+◌, ◌-◌, ◌*◌, ◌/◌, ◌%◌, ◌^◌, Bool, nat_lt, nat_le}
+use Rattle.std.specs.Prelude.{◌&&◌, if◌then◌else◌, List, [], ◌∷◌, ◌++◌, length, map}
 use Rattle.rv_code.specs.Bits.{extended}
 use Rattle.rv_code.specs.Code.{word_of}
 use Rattle.rv_code.specs.declared.instr.Instr.{Instr}

@@ -11,7 +11,7 @@ use crate::labels::targets_of;
 use crate::parts::{Labelled, Part, TextWords};
 use crate::places::settle;
 use bb_words::list::List;
-use rv_machine::laws::instruction_done;
+use rv_machine_laws::laws::instruction_done;
 use std::alloc::{AllocError, Global};
 
 /// The words of the parts, for a text that begins at 0x1000.

@@ -2,8 +2,11 @@
 -- RISC-V Unprivileged ISA, chapter "RV32/64G Instruction Set Listings", tables RV32I and RV32M.
 use Rattle.std.specs.Prelude.{◌≡◌, ◌==◌, ℕ, Option, Some, None, if◌then◌else◌}
 use Rattle.rv_code.specs.declared.instr.Instr.{Instr}
-use Rattle.rv_code.specs.declared.instr.Instr.TheVariants.{Lui, Auipc, Jal, Jalr, Beq, Bne, Blt, Bge, Bltu, Bgeu, Lb, Lh, Lw, Lbu, Lhu, Sb, Sh, Sw, Addi, Slti, Sltiu, Xori, Ori, Andi, Slli, Srli, Srai, Add, Sub, Sll, Slt, Sltu, Xor, Srl, Sra, Or, And, Mul, Mulh, Mulhsu, Mulhu, Div, Divu, Rem, Remu, Fence, Ecall, Ebreak}
-use Rattle.rv_code.specs.Formats.{Format, RType, IType, SType, BType, UType, JType, PlainType, format_word, FitsFormat, opcode_of, rd_of, funct3_of, rs1_of, rs2_of, funct7_of, funct12_of, i_immediate, s_immediate, b_immediate, u_immediate, j_immediate}
+use Rattle.rv_code.specs.declared.instr.Instr.TheVariants.{Lui, Auipc, Jal, Jalr, Beq, Bne, Blt, Bge, Bltu, Bgeu, Lb, Lh, Lw, Lbu, Lhu, Sb, Sh, Sw}
+use Rattle.rv_code.specs.declared.instr.Instr.TheVariants.{Addi, Slti, Sltiu, Xori, Ori, Andi, Slli, Srli, Srai, Add, Sub, Sll, Slt, Sltu, Xor, Srl}
+use Rattle.rv_code.specs.declared.instr.Instr.TheVariants.{Sra, Or, And, Mul, Mulh, Mulhsu, Mulhu, Div, Divu, Rem, Remu, Fence, Ecall, Ebreak}
+use Rattle.rv_code.specs.Formats.{Format, RType, IType, SType, BType, UType, JType, PlainType, format_word, FitsFormat, opcode_of, rd_of, funct3_of}
+use Rattle.rv_code.specs.Formats.{rs1_of, rs2_of, funct7_of, funct12_of, i_immediate, s_immediate, b_immediate, u_immediate, j_immediate}
 
 -- the format and the fields of each instruction
 abbrev pub format_of : Instr → Format

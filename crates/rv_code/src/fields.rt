@@ -1,7 +1,8 @@
 //! The fields of instruction words, and their immediates.
 ghost use Rattle.std.specs.Prelude.{◌≡◌, ◌+◌, ◌-◌, ◌*◌, ◌/◌, ◌%◌, ◌^◌, ◌<◌, ◌≤◌, nat_lt, if◌then◌else◌};
 ghost use Rattle.rv_code.specs.Bits as spec;
-ghost use Rattle.rv_code.specs.Formats.{opcode_of, rd_of, funct3_of, rs1_of, rs2_of, funct7_of, funct12_of, i_immediate, s_immediate, b_immediate, u_immediate, j_immediate};
+ghost use Rattle.rv_code.specs.Formats.{opcode_of, rd_of, funct3_of, rs1_of, rs2_of, funct7_of, funct12_of};
+ghost use Rattle.rv_code.specs.Formats.{i_immediate, s_immediate, b_immediate, u_immediate, j_immediate};
 
 /// The bits of `n` from `high` down to `low`, which are fewer than 32.
 #[inline]

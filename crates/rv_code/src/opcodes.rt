@@ -19,5 +19,3 @@ pub const OP_IMM: u32 = 0b001_0011;
 pub const OP: u32 = 0b011_0011;
 
 pub const MISC_MEM: u32 = 0b000_1111;
-
-pub const SYSTEM: u32 = 0b111_0011;

@@ -10,10 +10,12 @@ abbrev pub SpelledIsRead : Type 0
 SpelledIsRead = (image : Image) → IsImage image → AreWords image.text → image_of (spelling image) ≡ Ok image
 
 abbrev pub ReadIsSpelled : Type 0
-ReadIsSpelled = (bytes : List ℕ) (image : Image) → ((i : ℕ) → slice_index bytes i < 256) → image_of bytes ≡ Ok image → IsImage image × AreWords image.text × (bytes ≡ spelling image)
+ReadIsSpelled = (bytes : List ℕ) (image : Image) → ((i : ℕ) → slice_index bytes i < 256) → image_of bytes ≡ Ok image → IsImage image
+    × AreWords image.text × (bytes ≡ spelling image)
 
 abbrev pub OneImage : Type 0
 OneImage = (a b : Image) → IsImage a → IsImage b → AreWords a.text → AreWords b.text → spelling a ≡ spelling b → a ≡ b
 
 abbrev pub GoesOn : Type 0
-GoesOn = (image : Image) (b : ℕ) (rest : List ℕ) → IsImage image → AreWords image.text → image_of (spelling image ++ b ∷ rest) ≡ Err (Extra (length (spelling image)))
+GoesOn = (image : Image) (b : ℕ) (rest : List ℕ) → IsImage image → AreWords image.text
+    → image_of (spelling image ++ b ∷ rest) ≡ Err (Extra (length (spelling image)))

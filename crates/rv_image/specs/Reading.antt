@@ -3,7 +3,8 @@
 -- The rules are looked at field by field. Where the bytes end before a field does, the field is short: it needs so many
 -- bytes as there are up to its end. Each exponent is a field; so are the initial bytes as a whole and the words of the
 -- text as a whole. A rule that is broken is told by the place of the field's first byte.
-use Rattle.std.specs.Prelude.{◌≡◌, ◌==◌, ℕ, zero, suc, ◌+◌, ◌-◌, ◌*◌, ◌%◌, ◌^◌, List, [], ◌∷◌, length, slice_index, take, drop, Result, Ok, Err, Bool, true, not, ◌&&◌, nat_lt, nat_le, if◌then◌else◌}
+use Rattle.std.specs.Prelude.{◌≡◌, ◌==◌, ℕ, zero, suc, ◌+◌, ◌-◌, ◌*◌, ◌%◌, ◌^◌, List, [], ◌∷◌, length}
+use Rattle.std.specs.Prelude.{slice_index, take, drop, Result, Ok, Err, Bool, true, not, ◌&&◌, nat_lt, nat_le, if◌then◌else◌}
 use Rattle.std.specs.Int.{w32, from_le_bytes}
 use Rattle.size_table.specs.declared.memory_map.TheConstants.{TEXT_START, TABLE_START}
 use Rattle.rv_image.specs.declared.image.Image.{Image}

@@ -3,7 +3,8 @@ ghost use Rattle.std.specs.Prelude.{◌≡◌, ℕ, ◌+◌, ◌*◌, ◌^◌, �
 ghost use Rattle.rv_image.specs.declared.image.Image.{Image};
 ghost use Rattle.rv_image.specs.Rules.{IsImage, total_size};
 ghost use Rattle.rv_image.specs.Spelling.{AreWords, spelling};
-ghost use Rattle.rv_image.specs.Reading.{Gives, GivesAs, rule, field_at, number_at, entry_of, exponent_at, exponents_at, globals_at, frame_at, frames_from, frames_at, initial_at, ends_nonzero, words_of, text_at, image_of};
+ghost use Rattle.rv_image.specs.Reading.{Gives, GivesAs, rule, field_at, number_at, entry_of, exponent_at, exponents_at, globals_at};
+ghost use Rattle.rv_image.specs.Reading.{frame_at, frames_from, frames_at, initial_at, ends_nonzero, words_of, text_at, image_of};
 
 use crate::error::ImageError;
 use crate::image::Image;

@@ -1,5 +1,6 @@
 -- Frames that are entered and left.
-use Rattle.std.specs.Prelude.{◌≡◌, ◌==◌, ℕ, ◌-◌, ◌*◌, ◌/◌, ◌^◌, ◌≤◌, List, [], ◌∷◌, ◌++◌, reverse, Option, Some, None, length, take, nat_lt, nat_le, if◌then◌else◌, slice_get}
+use Rattle.std.specs.Prelude.{◌≡◌, ◌==◌, ℕ, ◌-◌, ◌*◌, ◌/◌, ◌^◌, ◌≤◌, List, [], ◌∷◌}
+use Rattle.std.specs.Prelude.{◌++◌, reverse, Option, Some, None, length, take, nat_lt, nat_le, if◌then◌else◌, slice_get}
 use Rattle.size_table.specs.declared.memory_map.TheConstants.{STACK_START, MOST_CALLS}
 use Rattle.size_table.specs.Blocks.{Block}
 use Rattle.rv_image.specs.Rules.{total_size}

@@ -1,8 +1,11 @@
 -- What an instruction does to the registers, the program counter and the memory (RISC-V unprivileged manual, chapters
 -- RV32I and M).
-use Rattle.std.specs.Prelude.{◌≡◌, ◌==◌, ℕ, ◌+◌, ◌*◌, ◌/◌, ◌%◌, ◌^◌, ◌||◌, Bool, true, false, not, nat_eq, nat_lt, nat_le, int_lt, bit_and, bit_or, bit_xor, slice_index, if◌then◌else◌, List, [], ◌∷◌, Option, Some, None}
+use Rattle.std.specs.Prelude.{◌≡◌, ◌==◌, ℕ, ◌+◌, ◌*◌, ◌/◌, ◌%◌, ◌^◌, ◌||◌, Bool, true, false, not, nat_eq, nat_lt}
+use Rattle.std.specs.Prelude.{nat_le, int_lt, bit_and, bit_or, bit_xor, slice_index, if◌then◌else◌, List, [], ◌∷◌, Option, Some, None}
 use Rattle.std.specs.Int.{to_le_bytes, w16, w32}
-use Rattle.bb_words.specs.Numbers.{signed, sum, difference, product, signed_high_product, mixed_high_product, unsigned_high_product, signed_quotient, unsigned_quotient, signed_remainder, unsigned_remainder, left_shift, right_shift, signed_right_shift, signed_below, unsigned_below}
+use Rattle.bb_words.specs.Numbers.{signed, sum, difference, product, signed_high_product, mixed_high_product}
+use Rattle.bb_words.specs.Numbers.{unsigned_high_product, signed_quotient, unsigned_quotient, signed_remainder}
+use Rattle.bb_words.specs.Numbers.{unsigned_remainder, left_shift, right_shift, signed_right_shift, signed_below, unsigned_below}
 use Rattle.bb_words.specs.declared.kinds.TrapKind.{TrapKind}
 use Rattle.bb_words.specs.declared.kinds.TrapKind.TheVariants.{Null, Marked, Unmapped, Text, Misaligned, Fetch, Illegal, Break}
 use Rattle.bb_watch.specs.declared.event.Event.{Event}
@@ -10,7 +13,9 @@ use Rattle.bb_watch.specs.declared.event.Event.TheVariants.{Move, Access, Call, 
 use Rattle.rv_code.specs.Bits.{extended}
 use Rattle.rv_code.specs.Code.{instruction_of}
 use Rattle.rv_code.specs.declared.instr.Instr.{Instr}
-use Rattle.rv_code.specs.declared.instr.Instr.TheVariants.{Lui, Auipc, Jal, Jalr, Beq, Bne, Blt, Bge, Bltu, Bgeu, Lb, Lh, Lw, Lbu, Lhu, Sb, Sh, Sw, Addi, Slti, Sltiu, Xori, Ori, Andi, Slli, Srli, Srai, Add, Sub, Sll, Slt, Sltu, Xor, Srl, Sra, Or, And, Mul, Mulh, Mulhsu, Mulhu, Div, Divu, Rem, Remu, Fence, Ecall, Ebreak}
+use Rattle.rv_code.specs.declared.instr.Instr.TheVariants.{Lui, Auipc, Jal, Jalr, Beq, Bne, Blt, Bge, Bltu, Bgeu, Lb, Lh, Lw, Lbu, Lhu, Sb, Sh, Sw}
+use Rattle.rv_code.specs.declared.instr.Instr.TheVariants.{Addi, Slti, Sltiu, Xori, Ori, Andi, Slli, Srli, Srai, Add, Sub, Sll, Slt, Sltu, Xor, Srl}
+use Rattle.rv_code.specs.declared.instr.Instr.TheVariants.{Sra, Or, And, Mul, Mulh, Mulhsu, Mulhu, Div, Divu, Rem, Remu, Fence, Ecall, Ebreak}
 use Rattle.rv_machine.specs.declared.stop.Effect.{Effect}
 use Rattle.rv_machine.specs.declared.stop.Effect.TheVariants.{Went, Trapped, Asked}
 use Rattle.size_table.specs.declared.memory_map.TheConstants.{TEXT_START, TABLE_START, MEMORY_END}

@@ -7,10 +7,7 @@ pub mod Machine
 pub mod Start
 pub mod Runs
 pub mod Live
-pub mod Safety
-pub mod Seen
 pub mod Formed
 pub mod Changes
 pub mod Events
-pub mod Laws
-pub mod Examples
+pub mod Tells

@@ -8,7 +8,8 @@ use Rattle.size_table.specs.Memory.{written_at, bytes_of_words, table_bytes}
 -- zeros, but for the text, the bytes of the size table for the global blocks, and the initial bytes of these
 unfoldable pub start_memory : Image → List ℕ
 start_memory image =
-    written_at (written_at (written_at (replicate memory_size 0) TEXT_START (bytes_of_words image.text)) (TABLE_START + GLOBALS_START / 16) (table_bytes image.globals)) GLOBALS_START image.initial
+    written_at (written_at (written_at (replicate memory_size 0) TEXT_START (bytes_of_words image.text)) (TABLE_START + GLOBALS_START / 16)
+    (table_bytes image.globals)) GLOBALS_START image.initial
 
 -- x2 is the upper end of the control stack, x31 the start of the size table, and all others are 0
 abbrev pub start_registers : List ℕ

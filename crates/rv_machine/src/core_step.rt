@@ -1,5 +1,6 @@
 //! The registers, the program counter and the memory, and the instructions on them.
-ghost use Rattle.std.specs.Prelude.{◌≡◌, ◌+◌, ◌*◌, ◌/◌, ◌%◌, ◌<◌, ◌≤◌, ◌^◌, Bool, List, [], ◌∷◌, length, slice_index, vec_len, IfOk, IfSome};
+ghost use Rattle.std.specs.Prelude.{◌≡◌, ◌+◌, ◌*◌, ◌/◌, ◌%◌, ◌<◌, ◌≤◌, ◌^◌};
+ghost use Rattle.std.specs.Prelude.{Bool, List, [], ◌∷◌, length, slice_index, vec_len, IfOk, IfSome};
 ghost use Rattle.std.specs.Int.{to_le_bytes, w16, w32};
 ghost use Rattle.rv_code.specs.Bits.{extended};
 ghost use Rattle.rv_code.specs.Code.{Fits};
@@ -112,7 +113,8 @@ impl Core {
 
     /// At most n instructions, up to one that is trapped or asks the environment.
     pub(crate) fn go(mut self, n: u64) -> (Core, Pause)
-        ensures ran { (frames : Frames) (heap : List Block) (o : Shown) → Ran (steps result.1.went) (running self frames heap) o (running result.0 frames heap) o }
+        ensures ran { (frames : Frames) (heap : List Block) (o : Shown)
+            → Ran (steps result.1.went) (running self frames heap) o (running result.0 frames heap) o }
         ensures pause { Paused result.1.effect n result.1.went result.0 }
     {
         let mut went = 0;

@@ -1,5 +1,6 @@
 //! The frames of an image, and the calls that were entered.
-ghost use Rattle.std.specs.Prelude.{◌≡◌, ◌+◌, ◌<◌, ◌≤◌, ◌++◌, ◌∷◌, [], length, vec_len, vec_capacity, slice_get, IfOk, IfNone, Some};
+ghost use Rattle.std.specs.Prelude.{◌≡◌, ◌+◌, ◌<◌, ◌≤◌, ◌++◌, ◌∷◌, []};
+ghost use Rattle.std.specs.Prelude.{length, vec_len, vec_capacity, slice_get, IfOk, IfNone, Some};
 ghost use Rattle.rv_image.specs.Rules.{IsImage, total_size, Decline, AreFrames};
 ghost use Rattle.size_table.specs.Made.{AreExponents};
 ghost use Rattle.rv_machine.specs.Frames.{stack_under};
@@ -121,7 +122,7 @@ impl Frames {
     ghost use Rattle.rv_machine.specs.Start.{start_frames};
 
     /// No call is entered. It takes the memory for all calls that ever may be.
-    pub(crate) fn new(alloc: Global, layouts: &List<List<u8>>) -> Result<Frames, AllocError>
+    pub fn new(alloc: Global, layouts: &List<List<u8>>) -> Result<Frames, AllocError>
         requires { AreFrames layouts.now }
         ensures { IfOk result (λ frames. frames ≡ start_frames layouts.now) }
     {
@@ -136,7 +137,7 @@ impl Frames {
 
     /// What entering frame k tells: the blocks that it makes, in order.
     #[tactic(auto, unfolding(crate::specs::Frames::enter))]
-    pub(crate) fn entering(&self, k: u32) -> Events<'_>
+    pub fn entering(&self, k: u32) -> Events<'_>
         ensures { (memory : List ℕ) → result ≡ map made_event (enter (slice_get self.now.layouts k) k self.now memory).blocks }
     {
         let at = k as usize;
@@ -156,7 +157,7 @@ impl Frames {
 
     /// What leaving frame k tells: the blocks that end, the last one first.
     #[tactic(auto, unfolding(crate::specs::Frames::leave))]
-    pub(crate) fn leaving(&self, k: u32) -> Events<'_>
+    pub fn leaving(&self, k: u32) -> Events<'_>
         ensures { (memory : List ℕ) → result ≡ map ended_event (leave (last_entered self.now) (slice_get self.now.layouts k) k self.now memory).blocks }
     {
         let count = self.entered.len();
@@ -174,7 +175,7 @@ impl Frames {
 
     /// Enters frame k: makes its blocks.
     #[tactic(auto, unfolding(crate::specs::Frames::enter))]
-    pub(crate) fn enter(&mut self, core: &mut Core, k: u32) -> Entry
+    pub fn enter(&mut self, core: &mut Core, k: u32) -> Entry
         ensures answer { result ≡ (enter (slice_get self.old.layouts k) k self.old core.old.memory).answer }
         ensures frames { self.new ≡ (enter (slice_get self.old.layouts k) k self.old core.old.memory).frames }
         ensures core { core.new ≡ with_memory (enter (slice_get self.old.layouts k) k self.old core.old.memory).memory core.old }
@@ -204,7 +205,7 @@ impl Frames {
 
     /// Leaves frame k, if the last call is of it: ends its blocks. The answer is the stack number that it goes back to.
     #[tactic(auto, unfolding(crate::specs::Frames::leave))]
-    pub(crate) fn leave(&mut self, core: &mut Core, k: u32) -> Option<u32>
+    pub fn leave(&mut self, core: &mut Core, k: u32) -> Option<u32>
         ensures answer { result ≡ (leave (last_entered self.old) (slice_get self.old.layouts k) k self.old core.old.memory).answer }
         ensures frames { self.new ≡ (leave (last_entered self.old) (slice_get self.old.layouts k) k self.old core.old.memory).frames }
         ensures core { core.new ≡ with_memory (leave (last_entered self.old) (slice_get self.old.layouts k) k self.old core.old.memory).memory core.old }

@@ -46,7 +46,7 @@ impl Machine {
     ghost use Rattle.rv_machine.specs.Instruction.{Asks, core_step};
     ghost use Rattle.rv_machine.specs.Environment.{calls, exits, gets, puts, reported, reports, enters, leaves, mallocs, frees, malloc_events, free_events};
     ghost use Rattle.bb_watch.specs.Told.{events_of};
-    ghost use Rattle.rv_machine.specs.Laws.{tells_of, call_tells};
+    ghost use Rattle.rv_machine.specs.Tells.{tells_of, call_tells};
     ghost use Rattle.rv_machine.specs.Machine.{step};
     ghost use Rattle.rv_machine.specs.Start.{start};
     ghost use Rattle.rv_machine.specs.Runs.{Answered, Stepped, Advanced, Stops, FaultCause, fault_of, stop_of};

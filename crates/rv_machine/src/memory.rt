@@ -1,5 +1,6 @@
 //! Bytes and words in memory.
-ghost use Rattle.std.specs.Prelude.{◌≡◌, ◌+◌, ◌-◌, ◌*◌, ◌^◌, ◌≤◌, length, replicate, vec_len, slice_index, [], ◌∷◌, ◌<◌, ◌%◌, IfOk, IfSome, All};
+ghost use Rattle.std.specs.Prelude.{◌≡◌, ◌+◌, ◌-◌, ◌*◌, ◌^◌, ◌≤◌, length, replicate};
+ghost use Rattle.std.specs.Prelude.{vec_len, slice_index, [], ◌∷◌, ◌<◌, ◌%◌, IfOk, IfSome, All};
 ghost use Rattle.size_table.specs.declared.memory_map.TheConstants.{TEXT_START, TABLE_START, MEMORY_END};
 ghost use Rattle.size_table.specs.Blocks.{IsBlock, block_at};
 ghost use Rattle.size_table.specs.Made.{tabled};

@@ -38,7 +38,7 @@ pub enum Fault {
 
 /// What became of an instruction.
 #[derive(Clone, Copy, Debug, PartialEq, Eq)]
-pub(crate) enum Effect {
+pub enum Effect {
     /// It was executed.
     Went,
     /// It could not be executed.
@@ -50,7 +50,7 @@ pub(crate) enum Effect {
 /// How a core stands after so many instructions that went, and what became of the next; `Went` says that all that were
 /// allowed went.
 #[derive(Clone, Copy, Debug, PartialEq, Eq)]
-pub(crate) struct Pause {
-    pub(crate) went: u64,
-    pub(crate) effect: Effect,
+pub struct Pause {
+    pub went: u64,
+    pub effect: Effect,
 }

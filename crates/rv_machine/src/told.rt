@@ -81,7 +81,8 @@ impl Core {
     fn told_access(&self, base: u8, imm: u32, size: u8, write: bool) -> Told
         requires base { base < 32 }
         requires size { (0 < size) × (size ≤ 4) }
-        ensures { (core : CoreState) → told_list result ≡ told_by (unless_trap (access_trap (address self.now base imm) size) core) (Access self.now.pc (address self.now base imm) size write base ∷ []) }
+        ensures { (core : CoreState) → told_list result ≡ told_by (unless_trap (access_trap (address self.now base imm) size) core)
+            (Access self.now.pc (address self.now base imm) size write base ∷ []) }
     {
         let (pc, at) = (self.pc(), self.address(base, imm));
         match trap_of(at, u32::from(size)) {

@@ -6,7 +6,7 @@ use Rattle.flat_code.specs.declared.code.FlatStep.{FlatStep}
 use Rattle.flat_code.specs.Code.{FStep, FSteps}
 use Rattle.flat_code.specs.CodeViews.{step_of, steps_of, function_of}
 use Rattle.flat_code.specs.Recognized.{Sequence, sequence_at, further}
-use Rattle.flat_verify.specs.Items.{Items, item_or, item_of, items_from}
+use Rattle.flat_discipline.specs.Items.{Items, item_or, item_of, items_from}
 use Rattle.rv_asm.specs.declared.parts.Part.{Part}
 use Rattle.rv_asm.specs.declared.parts.Part.TheVariants.{Plain, Label, Branch, Jump}
 use Rattle.rv_code.specs.declared.instr.Instr.{Instr}
@@ -15,10 +15,10 @@ use Rattle.rv_asm.specs.declared.parts.BranchOp.TheVariants as branch
 use Rattle.bb_words.specs.declared.kinds.ReportKind.TheVariants.{Bounds}
 use Rattle.std.proofs.Math.Dec.{eqb-suc-zero}
 use Rattle.std.specs.Prelude.{nat_eq, Bool}
-use Rattle.rv_select.specs.Layout.{store}
-use Rattle.rv_select.specs.Steps.{plains, fetch, held_after}
-use Rattle.rv_select.specs.Checks.{unless_parts, find_block, find_offset, widen, mark_code, move_end, move_parts, count_code, touch_code, last_distance, span_parts, sequence_parts, sequence_labels}
-use Rattle.rv_select.specs.Selection.{choice_parts, is_end, loop_parts, item_labels, items_labels, held_behind, item_parts, items_parts, zeros, parameters, functions_parts, function_parts, function_labels}
+use Rattle.rv_selected.specs.Layout.{store}
+use Rattle.rv_selected.specs.Steps.{plains, fetch, held_after}
+use Rattle.rv_selected.specs.Checks.{unless_parts, find_block, find_offset, widen, mark_code, move_end, move_parts, count_code, touch_code, last_distance, span_parts, sequence_parts, sequence_labels}
+use Rattle.rv_selected.specs.Selection.{choice_parts, is_end, loop_parts, item_labels, items_labels, held_behind, item_parts, items_parts, zeros, parameters, functions_parts, function_parts, function_labels}
 
 -- ---- Parts
 

@@ -4,7 +4,7 @@ use Rattle.std.specs.List.{AllByRecursion}
 use Rattle.flat_code.specs.declared.code.FlatFunction.{FlatFunction}
 use Rattle.flat_code.specs.declared.code.FlatStep.{FlatStep}
 use Rattle.flat_code.specs.CodeViews.{step_of, steps_of, function_of}
-use Rattle.rv_select.specs.Words.{StepHasWords, HaveWords, FunctionHasWords}
+use Rattle.rv_selected.specs.Words.{StepHasWords, HaveWords, FunctionHasWords}
 use Rattle.rv_select.proofs.Emitted.{next_in, end_in}
 
 -- the words of steps, once those of the rest are known

@@ -5,8 +5,8 @@ ghost use Rattle.std.specs.Prelude.{◌≡◌, ◌+◌, ◌<◌, ◌≤◌, ◌^
 ghost use Rattle.flat_code.specs.SequenceViews.{sequence_of};
 ghost use Rattle.rv_asm.specs.declared.parts.Part.TheVariants.{Label, Branch};
 ghost use Rattle.rv_code.specs.declared.instr.Instr.TheVariants.{Add, Lbu};
-ghost use Rattle.rv_select.specs.Steps.{plains};
-ghost use Rattle.rv_select.specs.Checks as checks;
+ghost use Rattle.rv_selected.specs.Steps.{plains};
+ghost use Rattle.rv_selected.specs.Checks as checks;
 
 use crate::emit::{after, load, put, put_all, put_constant, put_part, store};
 use crate::steps::{addi, put_look, put_owner, put_report};
@@ -188,7 +188,7 @@ struct Moved {
     line: u32,
 }
 
-#[tactic(auto, unfolding(crate::specs::Checks::move_parts))]
+#[tactic(auto, unfolding(rv_selected::specs::Checks::move_parts))]
 fn put_move(
     parts: &mut Vec<Part>,
     g: u8,
@@ -248,7 +248,7 @@ fn put_load_owner(parts: &mut Vec<Part>, g: u8, to: u32) -> Result<(), AllocErro
     put_constant(parts, 6, power(25 - g))
 }
 
-#[tactic(auto, unfolding(crate::specs::Checks::load_parts))]
+#[tactic(auto, unfolding(rv_selected::specs::Checks::load_parts))]
 fn put_load(parts: &mut Vec<Part>, g: u8, label: u32, v: LoadValues) -> Result<(), AllocError>
     requires { (1 ≤ g) × (g ≤ 24) }
     ensures { OnOk result (parts.new.items ≡ parts.old.items ++ checks.load_parts g label v.to v.at v.line) }
@@ -294,7 +294,7 @@ fn byte_at(address: u8) -> Instr
     }
 }
 
-#[tactic(auto, unfolding(crate::specs::Checks::span_parts))]
+#[tactic(auto, unfolding(rv_selected::specs::Checks::span_parts))]
 fn put_span(parts: &mut Vec<Part>, g: u8, label: u32, v: SpanValues) -> Result<(), AllocError>
     requires { (1 ≤ g) × (g ≤ 24) }
     ensures { OnOk result (parts.new.items ≡ parts.old.items ++ checks.span_parts g label v.pointer v.count v.last v.line) }

@@ -3,8 +3,8 @@
 
 ghost use Rattle.std.specs.Prelude.{◌≡◌, ◌+◌, ◌≤◌, ◌++◌, ◌∷◌, [], map, OnOk, IfOk};
 ghost use Rattle.flat_code.specs.CodeViews.{function_of};
-ghost use Rattle.rv_select.specs.Steps.{plains};
-ghost use Rattle.rv_select.specs.Selection as selection;
+ghost use Rattle.rv_selected.specs.Steps.{plains};
+ghost use Rattle.rv_selected.specs.Selection as selection;
 
 use crate::checks::{put_branch, put_label};
 use crate::emit::{

@@ -5,10 +5,10 @@ ghost use Rattle.std.specs.Prelude.{◌≡◌, ◌+◌, ◌-◌, ◌≤◌, ◌+
 ghost use Rattle.flat_code.specs.CodeViews.{step_of, steps_of};
 ghost use Rattle.flat_code.specs.Recognized.{further};
 ghost use Rattle.flat_code.specs.SequenceViews.{sequence_of};
-ghost use Rattle.flat_verify.specs.Items.{item_of, items_from};
+ghost use Rattle.flat_discipline.specs.Items.{item_of, items_from};
 ghost use Rattle.rv_asm.specs.declared.parts.Part.TheVariants.{Label, Jump};
-ghost use Rattle.rv_select.specs.Selection as selection;
-ghost use Rattle.rv_select.specs.Checks.{sequence_labels};
+ghost use Rattle.rv_selected.specs.Selection as selection;
+ghost use Rattle.rv_selected.specs.Checks.{sequence_labels};
 
 use crate::checks::{put_branch, put_label, put_sequence};
 use crate::emit::after;
@@ -117,7 +117,8 @@ fn put_item(
     parts: &mut Vec<Part>,
     label: u32,
 ) -> Result<u32, AllocError>
-    ensures parts { OnOk result (parts.new.items ≡ parts.old.items ++ selection.item_parts setting.now.exponent setting.now.back known exits.now label (item_of setting.now.exponent (step_of step.now))) }
+    ensures parts { OnOk result (parts.new.items ≡ parts.old.items ++ selection.item_parts setting.now.exponent setting.now.back known exits.now label
+        (item_of setting.now.exponent (step_of step.now))) }
     ensures next { IfOk result (λ next. next ≡ label + selection.item_labels (item_of setting.now.exponent (step_of step.now))) }
 {
     match step {
@@ -185,7 +186,8 @@ pub fn put_items(
     parts: &mut Vec<Part>,
     label: u32,
 ) -> Result<u32, AllocError>
-    ensures parts { OnOk result (parts.new.items ≡ parts.old.items ++ selection.items_parts setting.now.exponent setting.now.back known exits.now label (items_from setting.now.exponent 0 (steps_of steps.now))) }
+    ensures parts { OnOk result (parts.new.items ≡ parts.old.items ++ selection.items_parts setting.now.exponent setting.now.back known exits.now label
+        (items_from setting.now.exponent 0 (steps_of steps.now))) }
     ensures next { IfOk result (λ next. next ≡ label + selection.items_labels (items_from setting.now.exponent 0 (steps_of steps.now))) }
 {
     let mut skip: usize = 0;

@@ -8,7 +8,6 @@ mod checks;
 mod emit;
 mod functions;
 mod items;
-pub mod laws;
 pub mod select;
 mod steps;
 mod words;

@@ -3,17 +3,17 @@ ghost use Rattle.std.specs.Prelude.{◌≡◌, ◌≤◌, IfOk};
 ghost use Rattle.flat_code.specs.CodeViews.{code_of};
 ghost use Rattle.flat_code.specs.Weight.{weight};
 ghost use Rattle.rv_asm.specs.Parts.{AreParts};
-ghost use Rattle.rv_select.specs.Selection.{selected};
-ghost use Rattle.rv_select.specs.Shape.{AreShaped};
-ghost use Rattle.rv_select.specs.Words.{HasWords};
+ghost use Rattle.rv_selected.specs.Selection.{selected};
+ghost use Rattle.rv_selected.specs.Shape.{AreShaped};
+ghost use Rattle.rv_selected.specs.Words.{HasWords};
 
 use crate::functions::{put_functions, put_start};
-use crate::laws::{parts_are_resolvable, parts_are_shaped};
 use crate::words::numbers_are_words;
 use bb_words::list::List;
 use flat_code::code::Flat;
 use flat_verify::verified::Verified;
 use rv_asm::parts::{Labelled, Part};
+use rv_selected::laws::{parts_are_resolvable, parts_are_shaped};
 use std::alloc::{AllocError, Global};
 
 /// The parts of a program. The start code comes first.

@@ -5,9 +5,9 @@ ghost use Rattle.std.specs.Prelude.{◌≡◌, ◌++◌, ◌∷◌, [], OnOk, sl
 ghost use Rattle.flat_code.specs.CodeViews.{step_of};
 ghost use Rattle.rv_asm.specs.declared.parts.Part.TheVariants.{Plain, Jump};
 ghost use Rattle.rv_code.specs.declared.instr.Instr.TheVariants.{Addi};
-ghost use Rattle.rv_select.specs.Layout as layout;
-ghost use Rattle.rv_select.specs.Steps as code;
-ghost use Rattle.rv_select.specs.Steps.{plains};
+ghost use Rattle.rv_selected.specs.Layout as layout;
+ghost use Rattle.rv_selected.specs.Steps as code;
+ghost use Rattle.rv_selected.specs.Steps.{plains};
 
 use crate::emit::{is_short, load, put, put_all, put_constant, put_part, store};
 use bb_words::kinds::ReportKind;

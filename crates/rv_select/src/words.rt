@@ -6,7 +6,7 @@
 ghost use Rattle.std.specs.Prelude.{map};
 ghost use Rattle.std.specs.List.{AllByRecursion};
 ghost use Rattle.flat_code.specs.CodeViews.{step_of, steps_of, function_of, code_of};
-ghost use Rattle.rv_select.specs.Words.{StepHasWords, HaveWords, FunctionHasWords, HasWords};
+ghost use Rattle.rv_selected.specs.Words.{StepHasWords, HaveWords, FunctionHasWords, HasWords};
 
 use bb_words::word::Word;
 use flat_code::code::{Flat, FlatFunction, FlatStep};

@@ -16,32 +16,32 @@ use Rattle.flat_code.specs.Told.{Stamped, tells, Begins, Came}
 use Rattle.flat_code.specs.Code.{FFunction, FCode, FSteps}
 use Rattle.flat_code.specs.World.{FWorld, FPoint, Ending, Run}
 use Rattle.flat_code.specs.Run.{start, exited, flat_run, calls}
-use Rattle.flat_verify.specs.Items.{all_steps, items_of}
+use Rattle.flat_discipline.specs.Items.{all_steps, items_of}
 use Rattle.rv_asm.specs.declared.parts.Part.TheVariants.{Plain, Jump}
 use Rattle.rv_asm.specs.Runs.{IsAt, PartAt, PartsAt, at_place, gone}
 use Rattle.rv_code.specs.declared.instr.Instr.TheVariants.{Lui, Addi, Ecall}
 use Rattle.rv_machine.specs.declared.stop.Halt.TheVariants.{Exited}
 use Rattle.rv_machine.specs.State.{Core, register_of, set_register}
 use Rattle.rv_machine.specs.Environment.{with_machine, exits}
-use Rattle.rv_select.specs.Selection.{function_parts, function_labels, functions_parts, functions_labels, start_parts, selected}
-use Rattle.rv_select.specs.Steps.{plains}
-use Rattle.rv_select.specs.Straight.{Held, does_all}
+use Rattle.rv_selected.specs.Selection.{function_parts, function_labels, functions_parts, functions_labels, start_parts, selected}
+use Rattle.rv_selected.specs.Steps.{plains}
+use Rattle.rv_selected.specs.Straight.{Held, does_all}
 use Rattle.flat_landing.specs.Lands.{outcome_of, KeepsControl, Lands}
 use Rattle.flat_landing.specs.Shared.{shared}
-use Rattle.select_runs.specs.Frame.{IsFrameAt}
-use Rattle.select_runs.specs.InReach.{RunsInReach}
-use Rattle.select_runs.specs.Laws.{ProgramsLand}
-use Rattle.select_runs.specs.Fits.{FitsFunction, params_of}
-use Rattle.select_runs.specs.Scene.{Scene, IsScene, StartsAs, after, Frame, edge, held_of, Agrees}
-use Rattle.select_runs.proofs.Agree.{Laws, frame_unnoticed}
-use Rattle.select_runs.proofs.Reach.{Finishes, Ends, control_of}
-use Rattle.select_runs.proofs.Moves.{place_aligned, behind_jump, apart, one_step}
-use Rattle.select_runs.proofs.Pieces.{is_set, parts_split}
-use Rattle.select_runs.proofs.Raw.{runs_straight}
-use Rattle.select_runs.proofs.Calling.{IsCalled, returned_to, Answered, CallComes, IsCallee}
-use Rattle.select_runs.proofs.Functions.{FunctionAt}
-use Rattle.select_runs.proofs.Asking.{asks, calls_exit}
-use Rattle.select_runs.proofs.Calls.{calls_run}
+use Rattle.select_scope.specs.Frame.{IsFrameAt}
+use Rattle.select_scope.specs.InReach.{RunsInReach}
+use Rattle.select_scope.specs.Laws.{ProgramsLand}
+use Rattle.select_scope.specs.Fits.{FitsFunction, params_of}
+use Rattle.select_scope.specs.Scene.{Scene, IsScene, StartsAs, after, Frame, edge, held_of, Agrees}
+use Rattle.select_scope.proofs.Agree.{Laws, frame_unnoticed}
+use Rattle.select_scope.proofs.Reach.{Finishes, Ends, control_of}
+use Rattle.select_scope.proofs.Moves.{place_aligned, behind_jump, apart, one_step}
+use Rattle.select_scope.proofs.Pieces.{is_set, parts_split}
+use Rattle.select_straight.proofs.Raw.{runs_straight}
+use Rattle.select_calls.proofs.Calling.{IsCalled, returned_to, Answered, CallComes, IsCallee}
+use Rattle.select_calls.proofs.Functions.{FunctionAt}
+use Rattle.select_straight.proofs.Asking.{asks, calls_exit}
+use Rattle.select_calls.proofs.Calls.{calls_run}
 
 -- ---- The functions of a program stand in its text
 

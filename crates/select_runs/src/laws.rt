@@ -1,16 +1,16 @@
 //! The laws of selected code that runs.
-ghost use Rattle.select_runs.specs.Frame.{StraightRuns};
-ghost use Rattle.select_runs.specs.InReach.{CalmIsInReach, SafeIsInReach};
-ghost use Rattle.select_runs.specs.Laws.{ProgramsLand, SelectionRuns};
+ghost use Rattle.select_scope.specs.Frame.{StraightRuns};
+ghost use Rattle.select_scope.specs.InReach.{CalmIsInReach, SafeIsInReach};
+ghost use Rattle.select_scope.specs.Laws.{ProgramsLand, SelectionRuns};
 
 /// Straight code that stands in a text is done in as many steps as it has instructions. It tells accesses to the control
 /// frame alone, and changes nothing but registers and that frame.
 pub fn straight_runs()
     ensures { StraightRuns }
 {
-    rv_machine::laws::word_read_back();
-    rv_machine::laws::others_stay();
-    rv_machine::laws::core_stays();
+    rv_machine_laws::laws::word_read_back();
+    rv_machine_laws::laws::others_stay();
+    rv_machine_laws::laws::core_stays();
 }
 
 /// A machine whose text is the selected code of a program that fits lands for each bound on the turns and nested calls of
@@ -19,19 +19,19 @@ pub fn programs_land()
     ensures { ProgramsLand }
 {
     straight_runs();
-    rv_machine::laws::steps_add();
-    rv_machine::laws::core_stays();
-    rv_machine::laws::others_stay();
-    rv_select::laws::steps_lead();
+    rv_machine_laws::laws::steps_add();
+    rv_machine_laws::laws::core_stays();
+    rv_machine_laws::laws::others_stay();
+    rv_selected::laws::steps_lead();
     flat_landing::laws::kept_more();
     flat_landing::laws::shared_appends();
     bb_watch::laws::events_append();
     bb_watch::laws::events_happen();
     bb_watch::laws::each_appends();
     bb_watch::laws::open_appends();
-    flat_code::laws::tells_append();
-    flat_code::laws::live_appends();
-    flat_verify::laws::items_are_steps();
+    flat_code_laws::laws::tells_append();
+    flat_code_laws::laws::live_appends();
+    flat_discipline::laws::items_are_steps();
 }
 
 /// An image of the selected code of a program that fits runs as its flat code does, if each step that it comes to is in reach.
@@ -39,12 +39,12 @@ pub fn selection_runs()
     ensures { SelectionRuns }
 {
     programs_land();
-    rv_machine::laws::runs_are_formed();
-    rv_machine::laws::text_stands();
-    rv_machine::laws::pc_is_aligned();
-    rv_machine::laws::runs_have_table();
-    rv_machine::laws::memory_starts();
-    rv_select::laws::labels_stand_once();
+    rv_machine_laws::laws::runs_are_formed();
+    rv_machine_laws::laws::text_stands();
+    rv_machine_laws::laws::pc_is_aligned();
+    rv_machine_laws::laws::runs_have_table();
+    rv_machine_laws::laws::memory_starts();
+    rv_selected::laws::labels_stand_once();
     flat_landing::laws::landings_run();
 }
 

@@ -1,5 +1,6 @@
 -- Blocks of memory, and the slots that they hold. A slot has 2 ^ g bytes.
-use Rattle.std.specs.Prelude.{◌≡◌, ◌==◌, ◌⊎◌, ℕ, ◌+◌, ◌*◌, ◌%◌, ◌^◌, ◌≤◌, Bool, ◌&&◌, List, [], ◌∷◌, nat_le, if◌then◌else◌}
+use Rattle.std.specs.Prelude.{◌≡◌, ◌==◌, ◌⊎◌, ℕ, ◌+◌, ◌*◌, ◌%◌, ◌^◌}
+use Rattle.std.specs.Prelude.{◌≤◌, Bool, ◌&&◌, List, [], ◌∷◌, nat_le, if◌then◌else◌}
 use Rattle.size_table.specs.declared.memory_map.TheConstants.{MEMORY_END}
 
 -- the 2 ^ exponent bytes from base on

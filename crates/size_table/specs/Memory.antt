@@ -8,7 +8,8 @@ half_at memory at = from_le_bytes w16 (slice_index memory at ∷ slice_index mem
 
 -- the word at an address, its lowest byte first
 abbrev pub word_at : List ℕ → ℕ → ℕ
-word_at memory at = from_le_bytes w32 (slice_index memory at ∷ slice_index memory (at + 1) ∷ slice_index memory (at + 2) ∷ slice_index memory (at + 3) ∷ [])
+word_at memory at = from_le_bytes w32 (slice_index memory at ∷ slice_index memory (at + 1) ∷ slice_index memory (at + 2) ∷ slice_index memory (at + 3)
+    ∷ [])
 
 -- the memory with these bytes from an address on
 abbrev pub written_at : List ℕ → ℕ → List ℕ → List ℕ

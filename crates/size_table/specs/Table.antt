@@ -1,5 +1,6 @@
 -- The size table of a list of blocks.
-use Rattle.std.specs.Prelude.{◌≡◌, ℕ, ◌+◌, ◌/◌, ◌^◌, ◌<◌, ◌≤◌, true, List, [], ◌∷◌, ◌++◌, length, take, drop, replicate, slice_index, if◌then◌else◌}
+use Rattle.std.specs.Prelude.{◌≡◌, ℕ, ◌+◌, ◌/◌, ◌^◌, ◌<◌, ◌≤◌, true, List, []}
+use Rattle.std.specs.Prelude.{◌∷◌, ◌++◌, length, take, drop, replicate, slice_index, if◌then◌else◌}
 use Rattle.size_table.specs.declared.memory_map.TheConstants.{TABLE_START}
 use Rattle.size_table.specs.Blocks.{Block, IsBlock, block_at, holds, MissesAll, AreDisjoint}
 
@@ -28,11 +29,13 @@ pub record Marks (g : ℕ) (block : Block) (byte : ℕ) (old new : List ℕ) : T
 
 -- The table of blocks that the block doesn't meet becomes the table with the block, wherever it stands in the list.
 abbrev pub Adds : ℕ → Block → List ℕ → List ℕ → Type 0
-Adds g block old new = (before after : List Block) → MissesAll block (before ++ after) → IsTableOf g (before ++ after) old → IsTableOf g (before ++ block ∷ after) new
+Adds g block old new = (before after : List Block) → MissesAll block (before ++ after) → IsTableOf g (before ++ after) old
+    → IsTableOf g (before ++ block ∷ after) new
 
 -- The table of blocks that don't meet becomes the table without the block, wherever it stood in the list.
 abbrev pub Removes : ℕ → Block → List ℕ → List ℕ → Type 0
-Removes g block old new = (before after : List Block) → AreDisjoint (before ++ block ∷ after) → IsTableOf g (before ++ block ∷ after) old → IsTableOf g (before ++ after) new
+Removes g block old new = (before after : List Block) → AreDisjoint (before ++ block ∷ after) → IsTableOf g (before ++ block ∷ after) old
+    → IsTableOf g (before ++ after) new
 
 -- of a table of blocks, the byte is that of the slot
 abbrev pub TellsBlocks : ℕ → List ℕ → ℕ → ℕ → Type 0
@@ -40,7 +43,8 @@ TellsBlocks g table slot byte = (blocks : List Block) → IsTableOf g blocks tab
 
 -- of blocks that don't meet, the one that holds a slot gives its byte, wherever it stands in the list
 abbrev pub HoldersByteLaw : Type 0
-HoldersByteLaw = (g slot : ℕ) (block : Block) (before after : List Block) → AreDisjoint (before ++ block ∷ after) → holds g block slot ≡ true → byte_of g (before ++ block ∷ after) slot ≡ block.exponent
+HoldersByteLaw = (g slot : ℕ) (block : Block) (before after : List Block) → AreDisjoint (before ++ block ∷ after) → holds g block slot ≡ true
+    → byte_of g (before ++ block ∷ after) slot ≡ block.exponent
 
 -- the list with so many bytes of this value from a place on
 unfoldable pub filled : List ℕ → ℕ → ℕ → ℕ → List ℕ
@@ -59,7 +63,8 @@ FilledLaw = (bytes : List ℕ) (at count byte : ℕ) → at + count ≤ length b
 
 -- filling the bytes of a block's slots marks the block
 abbrev pub BlockIsMarked : Type 0
-BlockIsMarked = (base e byte : ℕ) (table : List ℕ) → length table ≡ table_size → IsBlock 4 (block_at base e) → Marks 4 (block_at base e) byte table (filled table (base / 16) (2 ^ e / 16) byte)
+BlockIsMarked = (base e byte : ℕ) (table : List ℕ) → length table ≡ table_size → IsBlock 4 (block_at base e)
+    → Marks 4 (block_at base e) byte table (filled table (base / 16) (2 ^ e / 16) byte)
 
 -- marking a block with its exponent adds it to the table
 abbrev pub MarkingAdds : Type 0

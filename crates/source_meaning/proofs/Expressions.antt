@@ -11,13 +11,13 @@ use Rattle.c_words.specs.declared.operators.BinaryOperator.{BinaryOperator}
 use Rattle.c_words.specs.declared.operators.BinaryOperator.TheVariants as op
 use Rattle.c_words.specs.declared.operators.AssignOperator.{AssignOperator}
 use Rattle.c_words.specs.declared.operators.AssignOperator.TheVariants as assign
-use Rattle.c_typed.specs.declared.typed_expr.Conversion.{Conversion}
-use Rattle.c_typed.specs.declared.typed_expr.Conversion.TheVariants as conversion
-use Rattle.c_typed.specs.declared.typed_expr.Called.{Called}
-use Rattle.c_typed.specs.declared.typed_expr.Called.TheVariants.{Defined, Library}
-use Rattle.c_typed.specs.Types.{CType, is_struct, is_unsigned}
-use Rattle.c_typed.specs.Sizes.{size_of}
-use Rattle.c_typed.specs.TypedTree.{CExpr, CForm, CExprs, CInitial, CInitials, CProgram, CStruct, type_of}
+use Rattle.typed_tree.specs.declared.typed_expr.Conversion.{Conversion}
+use Rattle.typed_tree.specs.declared.typed_expr.Conversion.TheVariants as conversion
+use Rattle.typed_tree.specs.declared.typed_expr.Called.{Called}
+use Rattle.typed_tree.specs.declared.typed_expr.Called.TheVariants.{Defined, Library}
+use Rattle.typed_tree.specs.Types.{CType, is_struct, is_unsigned}
+use Rattle.typed_tree.specs.Sizes.{size_of}
+use Rattle.typed_tree.specs.TypedTree.{CExpr, CForm, CExprs, CInitial, CInitials, CProgram, CStruct, type_of}
 use Rattle.source_meaning.specs.declared.values.Pointer.{Pointer}
 use Rattle.source_meaning.specs.declared.values.Value.{Value}
 use Rattle.source_meaning.specs.declared.values.Value.TheVariants.{Num}

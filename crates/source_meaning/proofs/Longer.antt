@@ -2,7 +2,7 @@
 use Rattle.std.proofs.Common.{◌≡◌, ℕ, Bool, true, false, Option, Some, None, refl, sym, ap, subst}
 use Rattle.bb_words.specs.Answers.{Goes, Ends, and_then, either}
 use Rattle.bb_words.specs.declared.steps.Width.{Width}
-use Rattle.c_typed.specs.Types.{CType}
+use Rattle.typed_tree.specs.Types.{CType}
 use Rattle.source_meaning.specs.declared.values.Pointer.{Pointer}
 use Rattle.source_meaning.specs.declared.values.Value.{Value}
 use Rattle.source_meaning.specs.declared.values.Value.TheVariants.{Num, Ptr}

@@ -7,7 +7,7 @@ use Rattle.size_table.specs.declared.memory_map.TheConstants.{STACK_START, MOST_
 use Rattle.block_layout.specs.Layout.{layout, stack_under}
 use Rattle.block_layout.specs.Objects.{block_items}
 use Rattle.c_words.specs.declared.place.At.{At}
-use Rattle.c_typed.specs.TypedTree.{CInitializer, CDeclaration, CStart, CStmt, CStmts, CProgram, CLocal, CFunction}
+use Rattle.typed_tree.specs.TypedTree.{CInitializer, CDeclaration, CStart, CStmt, CStmts, CProgram, CLocal, CFunction}
 use Rattle.source_meaning.specs.declared.values.Value.{Value}
 use Rattle.source_meaning.specs.declared.values.Value.TheVariants.{Num, Ptr}
 use Rattle.source_meaning.specs.declared.values.Want.TheVariants.{ItsValue}

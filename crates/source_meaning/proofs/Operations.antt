@@ -14,10 +14,10 @@ use Rattle.block_layout.specs.Layout.{Item, Placed, layout, stack_under}
 use Rattle.c_words.specs.declared.operators.BinaryOperator.{BinaryOperator}
 use Rattle.c_words.specs.declared.operators.BinaryOperator.TheVariants as op
 use Rattle.c_words.specs.declared.operators.StepOperator.{StepOperator}
-use Rattle.c_typed.specs.declared.typed_expr.LibCall.{LibCall}
-use Rattle.c_typed.specs.declared.typed_expr.LibCall.TheVariants as lib
-use Rattle.c_typed.specs.Types.{CType, is_pointer}
-use Rattle.c_typed.specs.TypedTree.{CStruct}
+use Rattle.typed_tree.specs.declared.typed_expr.LibCall.{LibCall}
+use Rattle.typed_tree.specs.declared.typed_expr.LibCall.TheVariants as lib
+use Rattle.typed_tree.specs.Types.{CType, is_pointer}
+use Rattle.typed_tree.specs.TypedTree.{CStruct}
 use Rattle.source_meaning.specs.declared.values.Pointer.{Pointer}
 use Rattle.source_meaning.specs.declared.values.Pointer.TheVariants.{Null, To}
 use Rattle.source_meaning.specs.declared.values.Value.{Value}

@@ -1,5 +1,6 @@
 -- What is read and written in memory.
-use Rattle.std.specs.Prelude.{◌==◌, ℕ, ◌+◌, ◌%◌, nat_lt, nat_le, Bool, true, false, if◌then◌else◌, List, Option, Some, None, ℤ, pos, negsuc}
+use Rattle.std.specs.Prelude.{◌==◌, ℕ, ◌+◌, ◌%◌, nat_lt, nat_le, Bool, true, false}
+use Rattle.std.specs.Prelude.{if◌then◌else◌, List, Option, Some, None, ℤ, pos, negsuc}
 use Rattle.bb_words.specs.Answers.{Goes, Ends, and_then}
 use Rattle.bb_words.specs.declared.kinds.TrapKind.TheVariants as trap
 use Rattle.bb_words.specs.declared.steps.Width.{Width}

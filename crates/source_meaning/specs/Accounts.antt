@@ -1,13 +1,14 @@
 -- How objects come and go: the frames of calls (C11 6.2.4 p5), the heap (7.22.3), and what a program may ask of the outside.
-use Rattle.std.specs.Prelude.{ℕ, suc, ◌+◌, ◌*◌, ◌%◌, nat_lt, nat_le, true, ◌&&◌, if◌then◌else◌, List, [], ◌∷◌, ◌++◌, length, slice_index_or, Option, Some, None, ℤ, pos}
+use Rattle.std.specs.Prelude.{ℕ, suc, ◌+◌, ◌*◌, ◌%◌, nat_lt, nat_le, true, ◌&&◌, if◌then◌else◌}
+use Rattle.std.specs.Prelude.{List, [], ◌∷◌, ◌++◌, length, slice_index_or, Option, Some, None, ℤ, pos}
 use Rattle.bb_words.specs.Answers.{Goes, Ends, and_then}
 use Rattle.bb_words.specs.declared.kinds.ReportKind.TheVariants as report
 use Rattle.size_table.specs.declared.memory_map.TheConstants.{STACK_START, MOST_CALLS, MOST_BYTES}
 use Rattle.size_table.specs.Pads.{exponent_of}
 use Rattle.buddy_heap.specs.Places.{place_of}
 use Rattle.block_layout.specs.Layout.{Item, Placed, layout, stack_under}
-use Rattle.c_typed.specs.declared.typed_expr.LibCall.{LibCall}
-use Rattle.c_typed.specs.declared.typed_expr.LibCall.TheVariants as lib
+use Rattle.typed_tree.specs.declared.typed_expr.LibCall.{LibCall}
+use Rattle.typed_tree.specs.declared.typed_expr.LibCall.TheVariants as lib
 use Rattle.source_meaning.specs.declared.values.Pointer.{Pointer}
 use Rattle.source_meaning.specs.declared.values.Pointer.TheVariants.{Null, To}
 use Rattle.source_meaning.specs.declared.values.Value.{Value}

@@ -2,11 +2,12 @@
 -- of each program stands above it; all of it is line 1, but where its lines are numbered.
 use Rattle.std.specs.Prelude.{◌≡◌, ℕ, ◌-◌, Bool, true, false, List, [], ◌∷◌, map, Some, None, ℤ, negsuc}
 use Rattle.c_words.specs.declared.place.At.{At}
-use Rattle.c_typed.specs.declared.typed.InitialByte.{InitialByte}
-use Rattle.c_typed.specs.declared.typed_expr.Conversion.TheVariants as conversion
+use Rattle.typed_tree.specs.declared.typed.InitialByte.{InitialByte}
+use Rattle.typed_tree.specs.declared.typed_expr.Conversion.TheVariants as conversion
 use Rattle.c_words.specs.declared.operators.AssignOperator.TheVariants as assign
-use Rattle.c_typed.specs.Types.{CType}
-use Rattle.c_typed.specs.TypedTree.{CExpr, CForm, CExprs, CInitial, CInitials, CDeclaration, CStmt, CStmts, CMember, CStruct, CGlobal, CLocal, CFunction, CProgram, type_of}
+use Rattle.typed_tree.specs.Types.{CType}
+use Rattle.typed_tree.specs.TypedTree.{CExpr, CForm, CExprs, CInitial, CInitials, CDeclaration, CStmt, CStmts}
+use Rattle.typed_tree.specs.TypedTree.{CMember, CStruct, CGlobal, CLocal, CFunction, CProgram, type_of}
 use Rattle.source_meaning.specs.declared.values.Pointer.{Pointer}
 use Rattle.source_meaning.specs.declared.values.Pointer.TheVariants as pointer
 use Rattle.source_meaning.specs.declared.values.Ending.{Ending}

@@ -1,14 +1,15 @@
 -- Where objects lie, and how deep calls go.
 use Rattle.std.specs.Prelude.{◌≡◌, ℕ, true, false, [], ◌∷◌}
 use Rattle.bb_words.specs.declared.kinds.ReportKind.TheVariants as report
-use Rattle.c_typed.specs.declared.typed_expr.Called.TheVariants.{Defined, Library}
-use Rattle.c_typed.specs.declared.typed_expr.LibCall.TheVariants as lib
-use Rattle.c_typed.specs.TypedTree.{CProgram}
-use Rattle.c_typed.specs.Types.CType.{Void, Char, Int, Array}
-use Rattle.c_typed.specs.TypedTree.CForm.{Call}
-use Rattle.c_typed.specs.TypedTree.CStmt.{Block}
+use Rattle.typed_tree.specs.declared.typed_expr.Called.TheVariants.{Defined, Library}
+use Rattle.typed_tree.specs.declared.typed_expr.LibCall.TheVariants as lib
+use Rattle.typed_tree.specs.TypedTree.{CProgram}
+use Rattle.typed_tree.specs.Types.CType.{Void, Char, Int, Array}
+use Rattle.typed_tree.specs.TypedTree.CForm.{Call}
+use Rattle.typed_tree.specs.TypedTree.CStmt.{Block}
 use Rattle.source_meaning.specs.declared.values.Ending.TheVariants.{Reported, Cut}
-use Rattle.source_meaning.specs.Examples.{Told, told, here, e, number, local, does, gives, declared, given, given_none, block, variable, in_memory, function, global, program, main_of, accounts}
+use Rattle.source_meaning.specs.Examples.{Told, told, here, e, number, local, does, gives, declared, given, given_none}
+use Rattle.source_meaning.specs.Examples.{block, variable, in_memory, function, global, program, main_of, accounts}
 use Rattle.source_meaning.specs.Runs.{outcome, outcome_of, calls, first_state, first_world}
 use Rattle.source_meaning.specs.declared.values.Value.TheVariants.{Num}
 use Rattle.source_meaning.specs.States.{State}
@@ -18,9 +19,11 @@ use Rattle.source_meaning.specs.States.{State}
 abbrev pub globals_and_frames : CProgram
 globals_and_frames =
     program [] (global Char 1 [] ∷ global (Array Int 5) 20 [] ∷ global (Array Char 40) 40 [] ∷ []) []
-    (function 1 Int 0 (in_memory (Array Int 5) 20 ∷ in_memory (Array Char 3) 3 ∷ []) (Block here (block (declared 0 ∷ declared 1 ∷ gives (number 0) ∷ [])))
+    (function 1 Int 0 (in_memory (Array Int 5) 20 ∷ in_memory (Array Char 3) 3 ∷ [])
+    (Block here (block (declared 0 ∷ declared 1 ∷ gives (number 0) ∷ [])))
     ∷ function 1 Int 0 (in_memory (Array Char 3) 3 ∷ [])
-    (Block here (block (declared 0 ∷ does (e Int (Call (Defined 0) given_none)) ∷ does (e Void (Call (Library lib.Exit) (given (number 1 ∷ [])))) ∷ [])))
+    (Block here (block (declared 0 ∷ does (e Int (Call (Defined 0) given_none)) ∷ does (e Void (Call (Library lib.Exit) (given (number 1 ∷ []))))
+    ∷ [])))
     ∷ [])
     1
 
@@ -58,7 +61,8 @@ WideLayout = accounts (outcome 5 globals_and_frames [] 8) ≡ (
 --   int main(void) { int a[5]; char b[3]; exit(1); }
 abbrev pub one_frame : CProgram
 one_frame =
-    main_of (in_memory (Array Int 5) 20 ∷ in_memory (Array Char 3) 3 ∷ []) (declared 0 ∷ declared 1 ∷ does (e Void (Call (Library lib.Exit) (given (number 1 ∷ [])))) ∷ [])
+    main_of (in_memory (Array Int 5) 20 ∷ in_memory (Array Char 3) 3 ∷ [])
+    (declared 0 ∷ declared 1 ∷ does (e Void (Call (Library lib.Exit) (given (number 1 ∷ [])))) ∷ [])
 
 -- A frame of 48 bytes begins at a multiple of 32: not at 0xFFFFD0, but at 0xFFFFC0.
 abbrev pub RoundedFrame : Type 0

@@ -5,17 +5,18 @@ use Rattle.c_words.specs.declared.operators.UnaryOperator.TheVariants as unary
 use Rattle.c_words.specs.declared.operators.StepOperator.TheVariants as step
 use Rattle.c_words.specs.declared.operators.BinaryOperator.TheVariants as op
 use Rattle.c_words.specs.declared.operators.AssignOperator.TheVariants as assign
-use Rattle.c_typed.specs.declared.typed_expr.Called.TheVariants.{Defined, Library}
-use Rattle.c_typed.specs.declared.typed_expr.LibCall.TheVariants as lib
-use Rattle.c_typed.specs.declared.typed_expr.Conversion.TheVariants as conversion
-use Rattle.c_typed.specs.Types.CType.{Void, Char, Int, Unsigned, Pointer, Array}
-use Rattle.c_typed.specs.TypedTree.{CStart, CStmts, CProgram}
-use Rattle.c_typed.specs.TypedTree.CForm.{Local, Global, Number, Convert, Index, Call, StepBefore, StepAfter, Unary, Binary, Conditional, Assign, Comma}
-use Rattle.c_typed.specs.TypedTree.CStmt.{Block, Declare, Eval, If, While, Do, For, Break, Continue, Return}
+use Rattle.typed_tree.specs.declared.typed_expr.Called.TheVariants.{Defined, Library}
+use Rattle.typed_tree.specs.declared.typed_expr.LibCall.TheVariants as lib
+use Rattle.typed_tree.specs.declared.typed_expr.Conversion.TheVariants as conversion
+use Rattle.typed_tree.specs.Types.CType.{Void, Char, Int, Unsigned, Pointer, Array}
+use Rattle.typed_tree.specs.TypedTree.{CStart, CStmts, CProgram}
+use Rattle.typed_tree.specs.TypedTree.CForm.{Local, Global, Number, Convert, Index, Call, StepBefore, StepAfter, Unary, Binary, Conditional, Assign, Comma}
+use Rattle.typed_tree.specs.TypedTree.CStmt.{Block, Declare, Eval, If, While, Do, For, Break, Continue, Return}
 use Rattle.source_meaning.specs.declared.values.OutsideCause.TheVariants as outside
 use Rattle.source_meaning.specs.declared.values.Ending.TheVariants.{Exited, Reported, Outside, Cut}
 use Rattle.source_meaning.specs.Worlds.Mark.{Line, Moved}
-use Rattle.source_meaning.specs.Examples.{on, here, e_on, e, number, local, named, array, as_number, set, does, gives, declared, starts, given, given_none, declares, block, variable, small_variable, in_memory, function, global, program, main_of, at, Runs}
+use Rattle.source_meaning.specs.Examples.{on, here, e_on, e, number, local, named, array, as_number, set, does, gives, declared, starts, given, given_none}
+use Rattle.source_meaning.specs.Examples.{declares, block, variable, small_variable, in_memory, function, global, program, main_of, at, Runs}
 
 -- A char takes 8 bits and becomes an int; an int beside an unsigned becomes one; shift counts are taken modulo 32.
 --   int main(void) { char c = 300; unsigned u = 0; return (c == 44) + 2 * (u - 1 > 0) + 4 * (-1 < u) + 8 * ((1 << 33)
@@ -45,7 +46,8 @@ conversions =
     (e Int
     (Binary op.Add (e Int (Binary op.ShiftLeft (number 1) (number 33))) (e Int (Binary op.ShiftRight (e Int (Unary unary.Minus (number 8))) (number 1)))))
     (e Int (Unary unary.Minus (number 2)))))))))
-    (e Int (Binary op.Multiply (number 16) (e Int (Binary op.Equal (e Int (Unary unary.Complement (as_number Int (named Char 0)))) (e Int (Unary unary.Minus (number 45)))))))))
+    (e Int (Binary op.Multiply (number 16)
+    (e Int (Binary op.Equal (e Int (Unary unary.Complement (as_number Int (named Char 0)))) (e Int (Unary unary.Minus (number 45)))))))))
     ∷ [])
 
 abbrev pub Conversions : Type 0
@@ -106,7 +108,8 @@ Quotients = Runs 4 quotients [] 8 (record {
 abbrev pub division_by_zero : CProgram
 division_by_zero =
     program [] (global Int 4 [] ∷ []) []
-    (function 2 Int 0 [] (Block (on 2) (block (Return (on 3) (Some (e_on 4 Int (Binary op.Remainder (e_on 3 Int (Number 7)) (e_on 4 Int (Global 0))))) ∷ []))) ∷ [])
+    (function 2 Int 0 [] (Block (on 2)
+    (block (Return (on 3) (Some (e_on 4 Int (Binary op.Remainder (e_on 3 Int (Number 7)) (e_on 4 Int (Global 0))))) ∷ []))) ∷ [])
     0
 
 abbrev pub DivisionByZero : Type 0
@@ -128,7 +131,8 @@ place_is_read_last =
     ∷ does (e Int (Assign assign.Add (local 0) (e Int (StepAfter step.Increment (local 0)))))
     ∷ gives
     (e Int
-    (Binary op.Add (e Int (Binary op.Add (e Int (Binary op.Multiply (local 0) (number 10))) (as_number Int (e Char (StepBefore step.Increment (named Char 1))))))
+    (Binary op.Add (e Int (Binary op.Add (e Int (Binary op.Multiply (local 0) (number 10)))
+    (as_number Int (e Char (StepBefore step.Increment (named Char 1))))))
     (as_number Int (e Char (StepAfter step.Decrement (named Char 1))))))
     ∷ [])
 
@@ -148,7 +152,8 @@ abbrev pub choices : CProgram
 choices =
     program [] [] []
     (function 1 Int 1 (variable Int ∷ []) (Block here (block (does (e Int (Call (Library lib.Putchar) (given (local 0 ∷ [])))) ∷ gives (local 0) ∷ [])))
-    ∷ function 1 Int 2 (variable Int ∷ variable Int ∷ []) (Block here (block (gives (e Int (Binary op.Add (e Int (Binary op.Multiply (local 0) (number 10))) (local 1))) ∷ [])))
+    ∷ function 1 Int 2 (variable Int ∷ variable Int ∷ [])
+    (Block here (block (gives (e Int (Binary op.Add (e Int (Binary op.Multiply (local 0) (number 10))) (local 1))) ∷ [])))
     ∷ function 1 Int 0 (in_memory (Array Int 2) 8 ∷ [])
     (Block here
     (block
@@ -156,12 +161,14 @@ choices =
     ∷ does (set (e Int (Index (array Int 2 0) (e Int (Call (Defined 0) (given (number 0 ∷ [])))))) (e Int (Call (Defined 0) (given (number 1 ∷ [])))))
     ∷ does
     (e Int
-    (Binary op.LogicalOr (e Int (Binary op.LogicalAnd (e Int (Call (Defined 0) (given (number 0 ∷ [])))) (e Int (Call (Defined 0) (given (number 9 ∷ []))))))
+    (Binary op.LogicalOr (e Int (Binary op.LogicalAnd (e Int (Call (Defined 0) (given (number 0 ∷ []))))
+    (e Int (Call (Defined 0) (given (number 9 ∷ []))))))
     (e Int (Binary op.LogicalAnd (e Int (Call (Defined 0) (given (number 3 ∷ [])))) (e Int (Call (Defined 0) (given (number 0 ∷ []))))))))
     ∷ does (e Int (Binary op.LogicalOr (e Int (Call (Defined 0) (given (number 2 ∷ [])))) (e Int (Call (Defined 0) (given (number 9 ∷ []))))))
     ∷ does
     (e Int
-    (Conditional (e Int (Call (Defined 0) (given (number 0 ∷ [])))) (e Int (Call (Defined 0) (given (number 9 ∷ [])))) (e Int (Call (Defined 0) (given (number 5 ∷ []))))))
+    (Conditional (e Int (Call (Defined 0) (given (number 0 ∷ [])))) (e Int (Call (Defined 0) (given (number 9 ∷ []))))
+    (e Int (Call (Defined 0) (given (number 5 ∷ []))))))
     ∷ gives
     (e Int
     (Comma (e Int (Call (Defined 0) (given (number 6 ∷ []))))
@@ -176,8 +183,10 @@ Choices = Runs 4 choices [] 8 (record {
   output = 0 ∷ 1 ∷ 0 ∷ 3 ∷ 0 ∷ 2 ∷ 0 ∷ 5 ∷ 6 ∷ 7 ∷ 8 ∷ [];
   nodes = 138;
   bytes = 0;
-  trail = Line 1 ∷ Line 1 ∷ Line 1 ∷ Line 1 ∷ Line 1 ∷ Moved 0 (at 0 (pos 0)) (at 0 (pos 0)) ∷ Line 1 ∷ Line 1 ∷ Line 1 ∷ Line 1 ∷ Line 1 ∷ Line 1 ∷ Line 1 ∷ Line 1 ∷ Line 1 ∷ Line 1 ∷ Line 1
-      ∷ Line 1 ∷ Line 1 ∷ Line 1 ∷ Line 1 ∷ Line 1 ∷ Line 1 ∷ Line 1 ∷ Line 1 ∷ Line 1 ∷ Line 1 ∷ Line 1 ∷ Line 1 ∷ Line 1 ∷ Line 1 ∷ Line 1 ∷ Line 1 ∷ Line 1 ∷ Line 1 ∷ Line 1 ∷ Line 1
+  trail = Line 1 ∷ Line 1 ∷ Line 1 ∷ Line 1 ∷ Line 1 ∷ Moved 0 (at 0 (pos 0)) (at 0 (pos 0)) ∷ Line 1 ∷ Line 1 ∷ Line 1 ∷ Line 1 ∷ Line 1
+      ∷ Line 1 ∷ Line 1 ∷ Line 1 ∷ Line 1 ∷ Line 1 ∷ Line 1
+      ∷ Line 1 ∷ Line 1 ∷ Line 1 ∷ Line 1 ∷ Line 1 ∷ Line 1 ∷ Line 1 ∷ Line 1 ∷ Line 1 ∷ Line 1 ∷ Line 1 ∷ Line 1 ∷ Line 1
+      ∷ Line 1 ∷ Line 1 ∷ Line 1 ∷ Line 1 ∷ Line 1 ∷ Line 1 ∷ Line 1
       ∷ Line 1 ∷ Line 1 ∷ Line 1 ∷ Line 1 ∷ Line 1 ∷ [];
 })
 
@@ -192,21 +201,24 @@ jumps =
     (Block here
     (block
     (While here (number 1)
-    (Block here (block (If here (e Int (Binary op.Greater (local 0) (number 2))) (gives (local 0)) ∷ does (e Int (StepAfter step.Increment (local 0))) ∷ [])))
+    (Block here (block (If here (e Int (Binary op.Greater (local 0) (number 2))) (gives (local 0)) ∷ does (e Int (StepAfter step.Increment (local 0)))
+    ∷ [])))
     ∷ [])))
     ∷ function 1 Int 0 (variable Int ∷ variable Int ∷ [])
     (Block here
     (block
     (declared 0
     ∷ starts 1 (number 0)
-    ∷ For here (CStart.Eval (set (local 0) (number 0))) (Some (e Int (Binary op.Less (local 0) (number 9)))) (Some (e Int (StepAfter step.Increment (local 0))))
+    ∷ For here (CStart.Eval (set (local 0) (number 0))) (Some (e Int (Binary op.Less (local 0) (number 9))))
+    (Some (e Int (StepAfter step.Increment (local 0))))
     (Block here
     (block
     (If here (e Int (Binary op.Equal (local 0) (number 1))) (Continue here)
     ∷ If here (e Int (Binary op.Equal (local 0) (number 3))) (Break here)
     ∷ does (e Int (Assign assign.Add (local 1) (local 0)))
     ∷ [])))
-    ∷ Do here (Block here (block (If here (e Int (Binary op.Equal (local 1) (number 3))) (Continue here) ∷ does (e Int (Assign assign.Add (local 1) (number 10))) ∷ [])))
+    ∷ Do here (Block here (block
+    (If here (e Int (Binary op.Equal (local 1) (number 3))) (Continue here) ∷ does (e Int (Assign assign.Add (local 1) (number 10))) ∷ [])))
     (e Int (Binary op.Less (e Int (StepAfter step.Increment (local 1))) (number 3)))
     ∷ gives (e Int (Binary op.Add (e Int (Binary op.Multiply (local 1) (number 10))) (e Int (Call (Defined 0) (given (number 1 ∷ []))))))
     ∷ [])))
@@ -219,7 +231,8 @@ Jumps = Runs 4 jumps [] 8 (record {
   output = [];
   nodes = 120;
   bytes = 0;
-  trail = Line 1 ∷ Line 1 ∷ Line 1 ∷ Line 1 ∷ Line 1 ∷ Line 1 ∷ Line 1 ∷ Line 1 ∷ Line 1 ∷ Line 1 ∷ Line 1 ∷ Line 1 ∷ Line 1 ∷ Line 1 ∷ Line 1 ∷ Line 1 ∷ Line 1 ∷ Line 1 ∷ Line 1 ∷ Line 1 ∷ Line 1
+  trail = Line 1 ∷ Line 1 ∷ Line 1 ∷ Line 1 ∷ Line 1 ∷ Line 1 ∷ Line 1 ∷ Line 1 ∷ Line 1 ∷ Line 1 ∷ Line 1 ∷ Line 1 ∷ Line 1
+      ∷ Line 1 ∷ Line 1 ∷ Line 1 ∷ Line 1 ∷ Line 1 ∷ Line 1 ∷ Line 1 ∷ Line 1
       ∷ Line 1 ∷ Line 1 ∷ Line 1 ∷ Line 1 ∷ Line 1 ∷ Line 1 ∷ Line 1 ∷ Line 1 ∷ Line 1 ∷ Line 1 ∷ Line 1 ∷ Line 1 ∷ [];
 })
 
@@ -237,7 +250,8 @@ nothing_returned =
     ∷ does (set (local 0) (e Int (Call (Defined 0) given_none)))
     ∷ gives
     (e Int
-    (Binary op.Add (local 0) (e Int (Binary op.Equal (e (Pointer Int) (Call (Defined 1) given_none)) (e (Pointer Int) (Convert conversion.NullToPointer (number 0)))))))
+    (Binary op.Add (local 0) (e Int
+    (Binary op.Equal (e (Pointer Int) (Call (Defined 1) given_none)) (e (Pointer Int) (Convert conversion.NullToPointer (number 0)))))))
     ∷ [])))
     ∷ [])
     2
@@ -255,7 +269,8 @@ NothingReturned = Runs 4 nothing_returned [] 8 (record {
 --   int main(void) { int i = 0; while (i < 3) i++; return i; }
 abbrev pub while_is_cut : CProgram
 while_is_cut =
-    main_of (variable Int ∷ []) (starts 0 (number 0) ∷ While here (e Int (Binary op.Less (local 0) (number 3))) (does (e Int (StepAfter step.Increment (local 0)))) ∷ gives (local 0) ∷ [])
+    main_of (variable Int ∷ []) (starts 0 (number 0)
+    ∷ While here (e Int (Binary op.Less (local 0) (number 3))) (does (e Int (StepAfter step.Increment (local 0)))) ∷ gives (local 0) ∷ [])
 
 abbrev pub WhileIsCut : Type 0
 WhileIsCut = Runs 4 while_is_cut [] 3 (record {
@@ -270,7 +285,8 @@ WhileIsCut = Runs 4 while_is_cut [] 3 (record {
 --   int main(void) { int i = 0; do i++; while (i < 3); return i; }
 abbrev pub do_is_not_cut : CProgram
 do_is_not_cut =
-    main_of (variable Int ∷ []) (starts 0 (number 0) ∷ Do here (does (e Int (StepAfter step.Increment (local 0)))) (e Int (Binary op.Less (local 0) (number 3))) ∷ gives (local 0) ∷ [])
+    main_of (variable Int ∷ []) (starts 0 (number 0)
+    ∷ Do here (does (e Int (StepAfter step.Increment (local 0)))) (e Int (Binary op.Less (local 0) (number 3))) ∷ gives (local 0) ∷ [])
 
 abbrev pub DoIsNotCut : Type 0
 DoIsNotCut = Runs 4 do_is_not_cut [] 3 (record {
@@ -285,7 +301,8 @@ DoIsNotCut = Runs 4 do_is_not_cut [] 3 (record {
 --   int main(void) { int i = 0; do i++; while (i < 3); return i; }
 abbrev pub do_is_cut : CProgram
 do_is_cut =
-    main_of (variable Int ∷ []) (starts 0 (number 0) ∷ Do here (does (e Int (StepAfter step.Increment (local 0)))) (e Int (Binary op.Less (local 0) (number 3))) ∷ gives (local 0) ∷ [])
+    main_of (variable Int ∷ []) (starts 0 (number 0)
+    ∷ Do here (does (e Int (StepAfter step.Increment (local 0)))) (e Int (Binary op.Less (local 0) (number 3))) ∷ gives (local 0) ∷ [])
 
 abbrev pub DoIsCut : Type 0
 DoIsCut = Runs 4 do_is_cut [] 2 (record {
@@ -326,7 +343,8 @@ abbrev pub cut_before_stack : CProgram
 cut_before_stack =
     program [] [] []
     (function 1 Void 1 (variable Int ∷ in_memory (Array Char 1048576) 1048576 ∷ [])
-    (Block here (block (declared 1 ∷ If here (local 0) (does (e Void (Call (Defined 0) (given (e Int (Binary op.Subtract (local 0) (number 1)) ∷ []))))) ∷ [])))
+    (Block here (block (declared 1 ∷ If here (local 0) (does (e Void (Call (Defined 0) (given (e Int (Binary op.Subtract (local 0) (number 1)) ∷ [])))))
+    ∷ [])))
     ∷ function 1 Int 0 [] (Block here (block (does (e Void (Call (Defined 0) (given (number 4 ∷ [])))) ∷ gives (number 0) ∷ [])))
     ∷ [])
     1
@@ -337,7 +355,8 @@ CutBeforeStack = Runs 4 cut_before_stack [] 5 (record {
   output = [];
   nodes = 49;
   bytes = 0;
-  trail = Line 1 ∷ Line 1 ∷ Line 1 ∷ Line 1 ∷ Line 1 ∷ Line 1 ∷ Line 1 ∷ Line 1 ∷ Line 1 ∷ Line 1 ∷ Line 1 ∷ Line 1 ∷ Line 1 ∷ Line 1 ∷ [];
+  trail = Line 1 ∷ Line 1 ∷ Line 1 ∷ Line 1 ∷ Line 1 ∷ Line 1 ∷ Line 1 ∷ Line 1 ∷ Line 1 ∷ Line 1 ∷ Line 1 ∷ Line 1 ∷ Line 1
+      ∷ Line 1 ∷ [];
 })
 
 -- The fifth frame of 1 MiB does not fit on the stack, which is reported with the line of the function.
@@ -354,7 +373,8 @@ stack_is_full =
     ∷ If (on 2) (e_on 2 Int (Local 0))
     (Eval (on 2) (e_on 2 Void (Call (Defined 0) (given (e_on 2 Int (Binary op.Subtract (e_on 2 Int (Local 0)) (e_on 2 Int (Number 1))) ∷ [])))))
     ∷ [])))
-    ∷ function 3 Int 0 [] (Block (on 3) (block (Eval (on 3) (e_on 3 Void (Call (Defined 0) (given (e_on 3 Int (Number 4) ∷ [])))) ∷ Return (on 3) (Some (e_on 3 Int (Number 0))) ∷ [])))
+    ∷ function 3 Int 0 [] (Block (on 3)
+    (block (Eval (on 3) (e_on 3 Void (Call (Defined 0) (given (e_on 3 Int (Number 4) ∷ [])))) ∷ Return (on 3) (Some (e_on 3 Int (Number 0))) ∷ [])))
     ∷ [])
     1
 
@@ -364,7 +384,8 @@ StackIsFull = Runs 4 stack_is_full [] 6 (record {
   output = [];
   nodes = 51;
   bytes = 0;
-  trail = Line 3 ∷ Line 3 ∷ Line 2 ∷ Line 2 ∷ Line 2 ∷ Line 2 ∷ Line 2 ∷ Line 2 ∷ Line 2 ∷ Line 2 ∷ Line 2 ∷ Line 2 ∷ Line 2 ∷ Line 2 ∷ [];
+  trail = Line 3 ∷ Line 3 ∷ Line 2 ∷ Line 2 ∷ Line 2 ∷ Line 2 ∷ Line 2 ∷ Line 2 ∷ Line 2 ∷ Line 2 ∷ Line 2 ∷ Line 2 ∷ Line 2
+      ∷ Line 2 ∷ [];
 })
 
 -- Input ends with -1; output takes the low 8 bits, and `exit` ends the run within a call.
@@ -379,7 +400,8 @@ echo =
     (does
     (e Void
     (Call (Library lib.Exit)
-    (given (e Int (Binary op.Subtract (e Int (Call (Library lib.Putchar) (given (number 321 ∷ [])))) (e Int (Call (Library lib.Getchar) given_none))) ∷ []))))
+    (given (e Int (Binary op.Subtract (e Int (Call (Library lib.Putchar) (given (number 321 ∷ [])))) (e Int (Call (Library lib.Getchar) given_none)))
+    ∷ []))))
     ∷ [])))
     ∷ function 1 Int 0 (variable Int ∷ [])
     (Block here
@@ -409,20 +431,26 @@ Echo = Runs 4 echo (0 ∷ 255 ∷ 10 ∷ []) 8 (record {
 abbrev pub heap_is_reused : CProgram
 heap_is_reused =
     main_of (variable (Pointer Char) ∷ variable (Pointer Char) ∷ variable (Pointer Char) ∷ variable (Pointer Char) ∷ variable Int ∷ [])
-    (starts 0 (e (Pointer Char) (Convert conversion.PointerToPointer (e (Pointer Void) (Call (Library lib.Malloc) (given (as_number Unsigned (number 8388608) ∷ []))))))
-    ∷ starts 1 (e (Pointer Char) (Convert conversion.PointerToPointer (e (Pointer Void) (Call (Library lib.Malloc) (given (as_number Unsigned (number 4194304) ∷ []))))))
-    ∷ starts 2 (e (Pointer Char) (Convert conversion.PointerToPointer (e (Pointer Void) (Call (Library lib.Malloc) (given (as_number Unsigned (number 4194304) ∷ []))))))
-    ∷ starts 3 (e (Pointer Char) (Convert conversion.PointerToPointer (e (Pointer Void) (Call (Library lib.Malloc) (given (as_number Unsigned (number 1048576) ∷ []))))))
+    (starts 0 (e (Pointer Char) (Convert conversion.PointerToPointer
+    (e (Pointer Void) (Call (Library lib.Malloc) (given (as_number Unsigned (number 8388608) ∷ []))))))
+    ∷ starts 1 (e (Pointer Char)
+    (Convert conversion.PointerToPointer (e (Pointer Void) (Call (Library lib.Malloc) (given (as_number Unsigned (number 4194304) ∷ []))))))
+    ∷ starts 2 (e (Pointer Char)
+    (Convert conversion.PointerToPointer (e (Pointer Void) (Call (Library lib.Malloc) (given (as_number Unsigned (number 4194304) ∷ []))))))
+    ∷ starts 3 (e (Pointer Char)
+    (Convert conversion.PointerToPointer (e (Pointer Void) (Call (Library lib.Malloc) (given (as_number Unsigned (number 1048576) ∷ []))))))
     ∷ starts 4
     (e Int
     (Binary op.Add (e Int (Binary op.NotEqual (named (Pointer Char) 2) (e (Pointer Char) (Convert conversion.NullToPointer (number 0)))))
-    (e Int (Binary op.Multiply (number 2) (e Int (Binary op.Equal (named (Pointer Char) 3) (e (Pointer Char) (Convert conversion.NullToPointer (number 0)))))))))
+    (e Int (Binary op.Multiply (number 2)
+    (e Int (Binary op.Equal (named (Pointer Char) 3) (e (Pointer Char) (Convert conversion.NullToPointer (number 0)))))))))
     ∷ does (set (e Char (Unary unary.Dereference (named (Pointer Char) 1))) (as_number Char (number 1)))
     ∷ does (e Void (Call (Library lib.Free) (given (e (Pointer Void) (Convert conversion.PointerToPointer (named (Pointer Char) 1)) ∷ []))))
     ∷ does
     (set (named (Pointer Char) 3)
     (e (Pointer Char)
-    (Convert conversion.PointerToPointer (e (Pointer Void) (Call (Library lib.Calloc) (given (as_number Unsigned (number 3) ∷ as_number Unsigned (number 1048576) ∷ [])))))))
+    (Convert conversion.PointerToPointer
+    (e (Pointer Void) (Call (Library lib.Calloc) (given (as_number Unsigned (number 3) ∷ as_number Unsigned (number 1048576) ∷ [])))))))
     ∷ gives
     (e Int
     (Binary op.Add
@@ -430,7 +458,8 @@ heap_is_reused =
     (Binary op.Add
     (e Int
     (Binary op.Add (local 4)
-    (e Int (Binary op.Multiply (number 4) (e Int (Binary op.NotEqual (named (Pointer Char) 3) (e (Pointer Char) (Convert conversion.NullToPointer (number 0)))))))))
+    (e Int (Binary op.Multiply (number 4)
+    (e Int (Binary op.NotEqual (named (Pointer Char) 3) (e (Pointer Char) (Convert conversion.NullToPointer (number 0)))))))))
     (e Int (Binary op.Multiply (number 8) (as_number Int (e Char (Unary unary.Dereference (named (Pointer Char) 3))))))))
     (e Int
     (Binary op.Multiply (number 16)
@@ -453,9 +482,11 @@ HeapIsReused = Runs 4 heap_is_reused [] 8 (record {
 abbrev pub bad_free : CProgram
 bad_free =
     main_of (variable (Pointer Char) ∷ [])
-    (starts 0 (e (Pointer Char) (Convert conversion.PointerToPointer (e (Pointer Void) (Call (Library lib.Malloc) (given (as_number Unsigned (number 8388608) ∷ []))))))
+    (starts 0 (e (Pointer Char) (Convert conversion.PointerToPointer
+    (e (Pointer Void) (Call (Library lib.Malloc) (given (as_number Unsigned (number 8388608) ∷ []))))))
     ∷ does (e Void (Call (Library lib.Free) (given (e (Pointer Void) (Convert conversion.NullToPointer (number 0)) ∷ []))))
-    ∷ does (e Void (Call (Library lib.Free) (given (e (Pointer Void) (Convert conversion.PointerToPointer (e (Pointer Char) (Binary op.Add (named (Pointer Char) 0) (number 1)))) ∷ []))))
+    ∷ does (e Void (Call (Library lib.Free)
+    (given (e (Pointer Void) (Convert conversion.PointerToPointer (e (Pointer Char) (Binary op.Add (named (Pointer Char) 0) (number 1)))) ∷ []))))
     ∷ gives (number 0)
     ∷ [])
 
@@ -473,7 +504,8 @@ BadFree = Runs 4 bad_free [] 8 (record {
 abbrev pub freed_twice : CProgram
 freed_twice =
     main_of (variable (Pointer Char) ∷ [])
-    (starts 0 (e (Pointer Char) (Convert conversion.PointerToPointer (e (Pointer Void) (Call (Library lib.Malloc) (given (as_number Unsigned (number 8388608) ∷ []))))))
+    (starts 0 (e (Pointer Char) (Convert conversion.PointerToPointer
+    (e (Pointer Void) (Call (Library lib.Malloc) (given (as_number Unsigned (number 8388608) ∷ []))))))
     ∷ does (e Void (Call (Library lib.Free) (given (e (Pointer Void) (Convert conversion.PointerToPointer (named (Pointer Char) 0)) ∷ []))))
     ∷ does (e Void (Call (Library lib.Free) (given (e (Pointer Void) (Convert conversion.PointerToPointer (named (Pointer Char) 0)) ∷ []))))
     ∷ gives (number 0)

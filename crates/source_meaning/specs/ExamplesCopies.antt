@@ -6,17 +6,18 @@ use Rattle.c_words.specs.declared.operators.UnaryOperator.TheVariants as unary
 use Rattle.c_words.specs.declared.operators.StepOperator.TheVariants as step
 use Rattle.c_words.specs.declared.operators.BinaryOperator.TheVariants as op
 use Rattle.c_words.specs.declared.operators.AssignOperator.TheVariants as assign
-use Rattle.c_typed.specs.declared.typed_expr.Called.TheVariants.{Library}
-use Rattle.c_typed.specs.declared.typed_expr.LibCall.TheVariants as lib
-use Rattle.c_typed.specs.declared.typed_expr.Conversion.TheVariants as conversion
-use Rattle.c_typed.specs.Types.CType.{Void, Char, Int, Unsigned, Struct, Pointer, Array}
-use Rattle.c_typed.specs.TypedTree.{CInitial, CStart, CProgram}
-use Rattle.c_typed.specs.TypedTree.CForm.{Local, Number, Convert, Index, Call, Member, StepAfter, Unary, Binary, Assign, Cast}
-use Rattle.c_typed.specs.TypedTree.CStmt.{Block, Declare, Eval, For, Return}
+use Rattle.typed_tree.specs.declared.typed_expr.Called.TheVariants.{Library}
+use Rattle.typed_tree.specs.declared.typed_expr.LibCall.TheVariants as lib
+use Rattle.typed_tree.specs.declared.typed_expr.Conversion.TheVariants as conversion
+use Rattle.typed_tree.specs.Types.CType.{Void, Char, Int, Unsigned, Struct, Pointer, Array}
+use Rattle.typed_tree.specs.TypedTree.{CInitial, CStart, CProgram}
+use Rattle.typed_tree.specs.TypedTree.CForm.{Local, Number, Convert, Index, Call, Member, StepAfter, Unary, Binary, Assign, Cast}
+use Rattle.typed_tree.specs.TypedTree.CStmt.{Block, Declare, Eval, For, Return}
 use Rattle.source_meaning.specs.declared.values.OutsideCause.TheVariants as outside
 use Rattle.source_meaning.specs.declared.values.Ending.TheVariants.{Exited, Reported, Trapped, Outside}
 use Rattle.source_meaning.specs.Worlds.Mark.{Line, Moved}
-use Rattle.source_meaning.specs.Examples.{on, here, e_on, e, number, local, named, array, as_number, set, does, gives, declared, starts, given, parts, declares, declares_with, block, variable, in_memory, function, member, struct, program, main_of, below, at, Runs}
+use Rattle.source_meaning.specs.Examples.{on, here, e_on, e, number, local, named, array, as_number, set, does, gives, declared, starts, given, parts}
+use Rattle.source_meaning.specs.Examples.{declares, declares_with, block, variable, in_memory, function, member, struct, program, main_of, below, at, Runs}
 
 -- A copy of a struct moves twice, in the source and then in the target, and takes pointers along.
 --   struct s { int a; char c; int *p; }; int main(void) { int x; struct s v; struct s w = v; v.a = 5; v.p = &x; w = v;
@@ -45,8 +46,10 @@ StructsAreCopied = Runs 4 structs_are_copied [] 8 (record {
   output = [];
   nodes = 32;
   bytes = 24;
-  trail = Line 1 ∷ Moved 0 (at 1 (pos 0)) (at 1 (pos 11)) ∷ Moved 1 (at 2 (pos 0)) (at 2 (pos 11)) ∷ Line 1 ∷ Line 1 ∷ Moved 2 (at 1 (pos 0)) (at 1 (pos 8)) ∷ Line 1
-      ∷ Moved 3 (at 1 (pos 0)) (at 1 (pos 11)) ∷ Moved 4 (at 2 (pos 0)) (at 2 (pos 11)) ∷ Line 1 ∷ Moved 5 (at 2 (pos 0)) (at 2 (pos 8)) ∷ Line 1 ∷ [];
+  trail = Line 1 ∷ Moved 0 (at 1 (pos 0)) (at 1 (pos 11)) ∷ Moved 1 (at 2 (pos 0)) (at 2 (pos 11)) ∷ Line 1 ∷ Line 1
+      ∷ Moved 2 (at 1 (pos 0)) (at 1 (pos 8)) ∷ Line 1
+      ∷ Moved 3 (at 1 (pos 0)) (at 1 (pos 11)) ∷ Moved 4 (at 2 (pos 0)) (at 2 (pos 11)) ∷ Line 1 ∷ Moved 5 (at 2 (pos 0)) (at 2 (pos 8)) ∷ Line 1
+      ∷ [];
 })
 
 -- The source is looked at first: the null pointer traps before the short target is reported.
@@ -63,7 +66,8 @@ source_first =
     ∷ starts 2 (e (Pointer (Struct 0)) (Cast (array Char 1 1)))
     ∷ does
     (e Void
-    (Assign assign.Assign (e (Struct 0) (Unary unary.Dereference (named (Pointer (Struct 0)) 2))) (e (Struct 0) (Unary unary.Dereference (named (Pointer (Struct 0)) 0)))))
+    (Assign assign.Assign (e (Struct 0) (Unary unary.Dereference (named (Pointer (Struct 0)) 2)))
+    (e (Struct 0) (Unary unary.Dereference (named (Pointer (Struct 0)) 0)))))
     ∷ gives (number 0)
     ∷ [])))
     ∷ [])
@@ -130,7 +134,8 @@ upwards =
     ∷ e (Pointer Void) (Convert conversion.PointerToPointer (array Char 8 0))
     ∷ as_number Unsigned (number 5)
     ∷ []))))
-    ∷ For here (CStart.Eval (set (local 1) (number 0))) (Some (e Int (Binary op.Less (local 1) (number 7)))) (Some (e Int (StepAfter step.Increment (local 1))))
+    ∷ For here (CStart.Eval (set (local 1) (number 0))) (Some (e Int (Binary op.Less (local 1) (number 7))))
+    (Some (e Int (StepAfter step.Increment (local 1))))
     (does (e Int (Call (Library lib.Putchar) (given (as_number Int (e Char (Index (array Char 8 0) (local 1))) ∷ [])))))
     ∷ gives (number 0)
     ∷ [])
@@ -141,9 +146,12 @@ Upwards = Runs 4 upwards [] 8 (record {
   output = 97 ∷ 98 ∷ 97 ∷ 98 ∷ 97 ∷ 98 ∷ 97 ∷ [];
   nodes = 98;
   bytes = 20;
-  trail = Line 1 ∷ Line 1 ∷ Moved 0 (at 0 (pos 0)) (at 0 (pos 2)) ∷ Moved 1 (at 0 (pos 0)) (at 0 (pos 4)) ∷ Moved 2 (at 0 (pos 2)) (at 0 (pos 6)) ∷ Line 1 ∷ Line 1
-      ∷ Moved 3 (at 0 (pos 0)) (at 0 (pos 0)) ∷ Line 1 ∷ Moved 3 (at 0 (pos 0)) (at 0 (pos 1)) ∷ Line 1 ∷ Moved 3 (at 0 (pos 0)) (at 0 (pos 2)) ∷ Line 1 ∷ Moved 3 (at 0 (pos 0)) (at 0 (pos 3))
-      ∷ Line 1 ∷ Moved 3 (at 0 (pos 0)) (at 0 (pos 4)) ∷ Line 1 ∷ Moved 3 (at 0 (pos 0)) (at 0 (pos 5)) ∷ Line 1 ∷ Moved 3 (at 0 (pos 0)) (at 0 (pos 6)) ∷ Line 1 ∷ [];
+  trail = Line 1 ∷ Line 1 ∷ Moved 0 (at 0 (pos 0)) (at 0 (pos 2)) ∷ Moved 1 (at 0 (pos 0)) (at 0 (pos 4)) ∷ Moved 2 (at 0 (pos 2)) (at 0 (pos 6))
+      ∷ Line 1 ∷ Line 1
+      ∷ Moved 3 (at 0 (pos 0)) (at 0 (pos 0)) ∷ Line 1 ∷ Moved 3 (at 0 (pos 0)) (at 0 (pos 1)) ∷ Line 1 ∷ Moved 3 (at 0 (pos 0)) (at 0 (pos 2))
+      ∷ Line 1 ∷ Moved 3 (at 0 (pos 0)) (at 0 (pos 3))
+      ∷ Line 1 ∷ Moved 3 (at 0 (pos 0)) (at 0 (pos 4)) ∷ Line 1 ∷ Moved 3 (at 0 (pos 0)) (at 0 (pos 5)) ∷ Line 1
+      ∷ Moved 3 (at 0 (pos 0)) (at 0 (pos 6)) ∷ Line 1 ∷ [];
 })
 
 -- `memset` sets low bytes and gives its pointer; no bytes look at no pointer.
@@ -163,7 +171,8 @@ sets =
     ∷ number 353
     ∷ as_number Unsigned (number 3)
     ∷ []))))))
-    ∷ does (e (Pointer Void) (Call (Library lib.Memset) (given (e (Pointer Void) (Convert conversion.NullToPointer (number 0)) ∷ number 1 ∷ as_number Unsigned (number 0) ∷ []))))
+    ∷ does (e (Pointer Void) (Call (Library lib.Memset)
+    (given (e (Pointer Void) (Convert conversion.NullToPointer (number 0)) ∷ number 1 ∷ as_number Unsigned (number 0) ∷ []))))
     ∷ does
     (e (Pointer Void)
     (Call (Library lib.Memcpy)
@@ -187,7 +196,8 @@ Sets = Runs 4 sets [] 8 (record {
   output = [];
   nodes = 36;
   bytes = 3;
-  trail = Line 1 ∷ Moved 0 (at 0 (pos 0)) (at 0 (pos 1)) ∷ Moved 1 (at 0 (pos 1)) (at 0 (pos 3)) ∷ Line 1 ∷ Line 1 ∷ Moved 3 (at 0 (pos 0)) (at 0 (below 8)) ∷ Line 1
+  trail = Line 1 ∷ Moved 0 (at 0 (pos 0)) (at 0 (pos 1)) ∷ Moved 1 (at 0 (pos 1)) (at 0 (pos 3)) ∷ Line 1 ∷ Line 1
+      ∷ Moved 3 (at 0 (pos 0)) (at 0 (below 8)) ∷ Line 1
       ∷ Moved 6 (at 0 (pos 0)) (at 0 (pos 1)) ∷ Moved 7 (at 0 (pos 0)) (at 0 (pos 1)) ∷ Moved 8 (at 0 (pos 0)) (at 0 (pos 0)) ∷ [];
 })
 
@@ -223,7 +233,8 @@ SpanPastTheLength = Runs 4 span_past_the_length [] 8 (record {
 abbrev pub too_long : CProgram
 too_long =
     main_of []
-    (does (e (Pointer Void) (Call (Library lib.Memset) (given (e (Pointer Void) (Convert conversion.NullToPointer (number 0)) ∷ number 1 ∷ as_number Unsigned (number 16777217) ∷ []))))
+    (does (e (Pointer Void) (Call (Library lib.Memset)
+    (given (e (Pointer Void) (Convert conversion.NullToPointer (number 0)) ∷ number 1 ∷ as_number Unsigned (number 16777217) ∷ []))))
     ∷ gives (number 0)
     ∷ [])
 
@@ -245,12 +256,14 @@ braces_clear =
     main_of (variable Int ∷ variable Int ∷ in_memory (Array Int 3) 12 ∷ in_memory (Array Int 1) 4 ∷ [])
     (declared 0
     ∷ starts 1 (number 0)
-    ∷ For here (CStart.Eval (set (local 0) (number 0))) (Some (e Int (Binary op.Less (local 0) (number 2)))) (Some (e Int (StepAfter step.Increment (local 0))))
+    ∷ For here (CStart.Eval (set (local 0) (number 0))) (Some (e Int (Binary op.Less (local 0) (number 2))))
+    (Some (e Int (StepAfter step.Increment (local 0))))
     (Block here
     (block
     (Declare
     (declares_with here 2
-    (CInitial.Braces here (parts (CInitial.Value (e Int (Binary op.Add (local 0) (number 1))) ∷ CInitial.Value (e Int (Index (array Int 3 2) (number 0))) ∷ []))))
+    (CInitial.Braces here (parts (CInitial.Value (e Int (Binary op.Add (local 0) (number 1))) ∷ CInitial.Value (e Int (Index (array Int 3 2) (number 0)))
+    ∷ []))))
     ∷ declared 3
     ∷ does
     (set (local 1)
@@ -272,9 +285,12 @@ BracesClear = Runs 4 braces_clear [] 8 (record {
   output = [];
   nodes = 102;
   bytes = 40;
-  trail = Line 1 ∷ Line 1 ∷ Line 1 ∷ Moved 0 (at 0 (pos 0)) (at 0 (pos 0)) ∷ Line 1 ∷ Moved 1 (at 0 (pos 0)) (at 0 (pos 4)) ∷ Moved 2 (at 0 (pos 0)) (at 0 (pos 8))
-      ∷ Moved 3 (at 1 (pos 0)) (at 1 (pos 0)) ∷ Line 1 ∷ Moved 4 (at 0 (pos 0)) (at 0 (pos 8)) ∷ Line 1 ∷ Moved 5 (at 1 (pos 0)) (at 1 (pos 0)) ∷ Line 1 ∷ Moved 0 (at 0 (pos 0)) (at 0 (pos 0))
-      ∷ Line 1 ∷ Moved 1 (at 0 (pos 0)) (at 0 (pos 4)) ∷ Moved 2 (at 0 (pos 0)) (at 0 (pos 8)) ∷ Moved 3 (at 1 (pos 0)) (at 1 (pos 0)) ∷ Line 1 ∷ Moved 4 (at 0 (pos 0)) (at 0 (pos 8)) ∷ Line 1
+  trail = Line 1 ∷ Line 1 ∷ Line 1 ∷ Moved 0 (at 0 (pos 0)) (at 0 (pos 0)) ∷ Line 1 ∷ Moved 1 (at 0 (pos 0)) (at 0 (pos 4))
+      ∷ Moved 2 (at 0 (pos 0)) (at 0 (pos 8))
+      ∷ Moved 3 (at 1 (pos 0)) (at 1 (pos 0)) ∷ Line 1 ∷ Moved 4 (at 0 (pos 0)) (at 0 (pos 8)) ∷ Line 1 ∷ Moved 5 (at 1 (pos 0)) (at 1 (pos 0))
+      ∷ Line 1 ∷ Moved 0 (at 0 (pos 0)) (at 0 (pos 0))
+      ∷ Line 1 ∷ Moved 1 (at 0 (pos 0)) (at 0 (pos 4)) ∷ Moved 2 (at 0 (pos 0)) (at 0 (pos 8)) ∷ Moved 3 (at 1 (pos 0)) (at 1 (pos 0)) ∷ Line 1
+      ∷ Moved 4 (at 0 (pos 0)) (at 0 (pos 8)) ∷ Line 1
       ∷ Moved 5 (at 1 (pos 0)) (at 1 (pos 0)) ∷ Line 1 ∷ [];
 })
 
@@ -302,7 +318,8 @@ struct_parts =
     (e Int
     (Binary op.Add
     (e Int
-    (Binary op.Add (as_number Int (e Char (Member (named (Struct 0) 1) 0))) (e Int (Unary unary.Dereference (e (Pointer Int) (Member (named (Struct 0) 1) 1))))))
+    (Binary op.Add (as_number Int (e Char (Member (named (Struct 0) 1) 0)))
+    (e Int (Unary unary.Dereference (e (Pointer Int) (Member (named (Struct 0) 1) 1))))))
     (as_number Int
     (e Char
     (Index
@@ -330,7 +347,8 @@ StructParts = Runs 4 struct_parts [] 8 (record {
   output = [];
   nodes = 31;
   bytes = 22;
-  trail = Line 1 ∷ Line 1 ∷ Moved 0 (at 1 (pos 0)) (at 1 (pos 4)) ∷ Moved 1 (at 1 (pos 0)) (at 1 (pos 8)) ∷ Moved 2 (at 1 (pos 8)) (at 1 (pos 8)) ∷ Moved 3 (at 1 (pos 8)) (at 1 (pos 8))
+  trail = Line 1 ∷ Line 1 ∷ Moved 0 (at 1 (pos 0)) (at 1 (pos 4)) ∷ Moved 1 (at 1 (pos 0)) (at 1 (pos 8)) ∷ Moved 2 (at 1 (pos 8)) (at 1 (pos 8))
+      ∷ Moved 3 (at 1 (pos 8)) (at 1 (pos 8))
       ∷ Moved 4 (at 1 (pos 0)) (at 1 (pos 8)) ∷ Moved 5 (at 1 (pos 8)) (at 1 (pos 10)) ∷ Moved 6 (at 1 (pos 10)) (at 1 (pos 10)) ∷ [];
 })
 
@@ -341,18 +359,22 @@ abbrev pub strings : CProgram
 strings =
     main_of (in_memory (Array Char 5) 5 ∷ in_memory (Array (Array Char 3) 2) 6 ∷ [])
     (Declare (declares_with here 0 (CInitial.Text here (97 ∷ 98 ∷ 99 ∷ [])))
-    ∷ Declare (declares_with here 1 (CInitial.Braces here (parts (CInitial.Text here (100 ∷ []) ∷ CInitial.Text here (101 ∷ 102 ∷ 103 ∷ []) ∷ []))))
+    ∷ Declare (declares_with here 1
+    (CInitial.Braces here (parts (CInitial.Text here (100 ∷ []) ∷ CInitial.Text here (101 ∷ 102 ∷ 103 ∷ []) ∷ []))))
     ∷ gives
     (e Int
     (Binary op.Subtract
     (e Int
     (Binary op.Add
     (e Int
-    (Binary op.Add (e Int (Binary op.Add (as_number Int (e Char (Index (array Char 5 0) (number 2)))) (as_number Int (e Char (Index (array Char 5 0) (number 3))))))
+    (Binary op.Add (e Int (Binary op.Add (as_number Int (e Char (Index (array Char 5 0) (number 2))))
+    (as_number Int (e Char (Index (array Char 5 0) (number 3))))))
     (as_number Int
     (e Char (Index (e (Pointer Char) (Convert conversion.ArrayToPointer (e (Array Char 3) (Index (array (Array Char 3) 2 1) (number 0))))) (number 1))))))
-    (as_number Int (e Char (Index (e (Pointer Char) (Convert conversion.ArrayToPointer (e (Array Char 3) (Index (array (Array Char 3) 2 1) (number 1))))) (number 2))))))
-    (as_number Int (e Char (Index (e (Pointer Char) (Convert conversion.ArrayToPointer (e (Array Char 3) (Index (array (Array Char 3) 2 1) (number 0))))) (number 0))))))
+    (as_number Int (e Char (Index (e (Pointer Char) (Convert conversion.ArrayToPointer (e (Array Char 3) (Index (array (Array Char 3) 2 1) (number 1)))))
+    (number 2))))))
+    (as_number Int (e Char (Index (e (Pointer Char) (Convert conversion.ArrayToPointer (e (Array Char 3) (Index (array (Array Char 3) 2 1) (number 0)))))
+    (number 0))))))
     ∷ [])
 
 abbrev pub Strings : Type 0
@@ -361,6 +383,8 @@ Strings = Runs 4 strings [] 8 (record {
   output = [];
   nodes = 40;
   bytes = 18;
-  trail = Line 1 ∷ Line 1 ∷ Moved 0 (at 0 (pos 0)) (at 0 (pos 2)) ∷ Moved 1 (at 0 (pos 0)) (at 0 (pos 3)) ∷ Moved 2 (at 1 (pos 0)) (at 1 (pos 0)) ∷ Moved 3 (at 1 (pos 0)) (at 1 (pos 1))
-      ∷ Moved 4 (at 1 (pos 0)) (at 1 (pos 3)) ∷ Moved 5 (at 1 (pos 3)) (at 1 (pos 5)) ∷ Moved 6 (at 1 (pos 0)) (at 1 (pos 0)) ∷ Moved 7 (at 1 (pos 0)) (at 1 (pos 0)) ∷ [];
+  trail = Line 1 ∷ Line 1 ∷ Moved 0 (at 0 (pos 0)) (at 0 (pos 2)) ∷ Moved 1 (at 0 (pos 0)) (at 0 (pos 3)) ∷ Moved 2 (at 1 (pos 0)) (at 1 (pos 0))
+      ∷ Moved 3 (at 1 (pos 0)) (at 1 (pos 1))
+      ∷ Moved 4 (at 1 (pos 0)) (at 1 (pos 3)) ∷ Moved 5 (at 1 (pos 3)) (at 1 (pos 5)) ∷ Moved 6 (at 1 (pos 0)) (at 1 (pos 0))
+      ∷ Moved 7 (at 1 (pos 0)) (at 1 (pos 0)) ∷ [];
 })

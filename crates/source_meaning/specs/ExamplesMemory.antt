@@ -4,19 +4,20 @@ use Rattle.bb_words.specs.declared.kinds.TrapKind.TheVariants as trap
 use Rattle.c_words.specs.declared.operators.UnaryOperator.TheVariants as unary
 use Rattle.c_words.specs.declared.operators.BinaryOperator.TheVariants as op
 use Rattle.c_words.specs.declared.operators.AssignOperator.TheVariants as assign
-use Rattle.c_typed.specs.declared.typed.InitialByte.TheVariants as initial
-use Rattle.c_typed.specs.declared.typed.GlobalObject.TheVariants as object
-use Rattle.c_typed.specs.declared.typed_expr.Called.TheVariants.{Defined, Library}
-use Rattle.c_typed.specs.declared.typed_expr.LibCall.TheVariants as lib
-use Rattle.c_typed.specs.declared.typed_expr.Conversion.TheVariants as conversion
-use Rattle.c_typed.specs.Types.CType.{Void, Char, Int, Unsigned, Pointer, Array}
-use Rattle.c_typed.specs.TypedTree.CForm.{Global, Convert, Index, Call, Unary, Binary, Assign, Cast}
-use Rattle.c_typed.specs.TypedTree.CStmt.{Block, If}
+use Rattle.typed_tree.specs.declared.typed.InitialByte.TheVariants as initial
+use Rattle.typed_tree.specs.declared.typed.GlobalObject.TheVariants as object
+use Rattle.typed_tree.specs.declared.typed_expr.Called.TheVariants.{Defined, Library}
+use Rattle.typed_tree.specs.declared.typed_expr.LibCall.TheVariants as lib
+use Rattle.typed_tree.specs.declared.typed_expr.Conversion.TheVariants as conversion
+use Rattle.typed_tree.specs.Types.CType.{Void, Char, Int, Unsigned, Pointer, Array}
+use Rattle.typed_tree.specs.TypedTree.CForm.{Global, Convert, Index, Call, Unary, Binary, Assign, Cast}
+use Rattle.typed_tree.specs.TypedTree.CStmt.{Block, If}
 use Rattle.source_meaning.specs.declared.values.OutsideCause.TheVariants as outside
 use Rattle.source_meaning.specs.declared.values.Ending.TheVariants.{Exited, Trapped, Outside}
 use Rattle.source_meaning.specs.Worlds.Mark.{Line, Moved}
-use Rattle.source_meaning.specs.Examples.{here, e, number, local, named, array, as_number, set, does, gives, declared, starts, given, given_none, block, variable, in_memory, function, global, program, main_of, below, at, Runs}
-use Rattle.c_typed.specs.TypedTree.{CProgram}
+use Rattle.source_meaning.specs.Examples.{here, e, number, local, named, array, as_number, set, does, gives, declared, starts, given}
+use Rattle.source_meaning.specs.Examples.{given_none, block, variable, in_memory, function, global, program, main_of, below, at, Runs}
+use Rattle.typed_tree.specs.TypedTree.{CProgram}
 
 -- A word has its low byte first; a char keeps the low 8 bits of what it is given.
 --   int main(void) { int a[2]; char *c = (char *)a; a[0] = 0x04030201; a[1] = -2; c[5] = 300; return c[0] + c[3] * 10
@@ -44,7 +45,8 @@ LittleEndian = Runs 4 little_endian [] 8 (record {
   output = [];
   nodes = 42;
   bytes = 0;
-  trail = Line 1 ∷ Line 1 ∷ Moved 0 (at 0 (pos 0)) (at 0 (pos 0)) ∷ Line 1 ∷ Moved 1 (at 0 (pos 0)) (at 0 (pos 4)) ∷ Line 1 ∷ Moved 2 (at 0 (pos 0)) (at 0 (pos 5)) ∷ Line 1
+  trail = Line 1 ∷ Line 1 ∷ Moved 0 (at 0 (pos 0)) (at 0 (pos 0)) ∷ Line 1 ∷ Moved 1 (at 0 (pos 0)) (at 0 (pos 4)) ∷ Line 1
+      ∷ Moved 2 (at 0 (pos 0)) (at 0 (pos 5)) ∷ Line 1
       ∷ Moved 3 (at 0 (pos 0)) (at 0 (pos 0)) ∷ Moved 4 (at 0 (pos 0)) (at 0 (pos 3)) ∷ Moved 5 (at 0 (pos 0)) (at 0 (pos 4)) ∷ [];
 })
 
@@ -56,9 +58,11 @@ globals =
     program []
     (global Int 4 (initial.Byte 2 ∷ initial.Byte 1 ∷ [])
     ∷ global (Pointer Char) 4
-    (initial.PointerPart (object.Text 0) 0 ∷ initial.PointerPart (object.Text 0) 1 ∷ initial.PointerPart (object.Text 0) 2 ∷ initial.PointerPart (object.Text 0) 3 ∷ [])
+    (initial.PointerPart (object.Text 0) 0 ∷ initial.PointerPart (object.Text 0) 1 ∷ initial.PointerPart (object.Text 0) 2
+    ∷ initial.PointerPart (object.Text 0) 3 ∷ [])
     ∷ global (Array (Pointer Int) 2) 8
-    (initial.Byte 0 ∷ initial.Byte 0 ∷ initial.Byte 0 ∷ initial.Byte 0 ∷ initial.PointerPart (object.Named 0) 0 ∷ initial.PointerPart (object.Named 0) 1
+    (initial.Byte 0 ∷ initial.Byte 0 ∷ initial.Byte 0 ∷ initial.Byte 0 ∷ initial.PointerPart (object.Named 0) 0
+    ∷ initial.PointerPart (object.Named 0) 1
     ∷ initial.PointerPart (object.Named 0) 2 ∷ initial.PointerPart (object.Named 0) 3 ∷ [])
     ∷ [])
     ((120 ∷ 121 ∷ []) ∷ [])
@@ -91,7 +95,8 @@ Globals = Runs 4 globals [] 8 (record {
   output = [];
   nodes = 25;
   bytes = 0;
-  trail = Line 1 ∷ Line 1 ∷ Moved 0 (at 2 (pos 0)) (at 2 (pos 4)) ∷ Line 1 ∷ Moved 1 (at 3 (pos 0)) (at 3 (pos 1)) ∷ Moved 2 (at 3 (pos 0)) (at 3 (pos 2)) ∷ Moved 3 (at 2 (pos 0)) (at 2 (pos 0))
+  trail = Line 1 ∷ Line 1 ∷ Moved 0 (at 2 (pos 0)) (at 2 (pos 4)) ∷ Line 1 ∷ Moved 1 (at 3 (pos 0)) (at 3 (pos 1))
+      ∷ Moved 2 (at 3 (pos 0)) (at 3 (pos 2)) ∷ Moved 3 (at 2 (pos 0)) (at 2 (pos 0))
       ∷ [];
 })
 
@@ -116,7 +121,8 @@ MarkedBeforeMisaligned = Runs 4 marked_before_misaligned [] 8 (record {
 abbrev pub marked_at_the_padding : CProgram
 marked_at_the_padding =
     main_of (in_memory (Array Char 10) 10 ∷ [])
-    (declared 0 ∷ does (set (e Char (Index (array Char 10 0) (number 9))) (as_number Char (number 1))) ∷ gives (as_number Int (e Char (Index (array Char 10 0) (number 16)))) ∷ [])
+    (declared 0 ∷ does (set (e Char (Index (array Char 10 0) (number 9))) (as_number Char (number 1)))
+    ∷ gives (as_number Int (e Char (Index (array Char 10 0) (number 16)))) ∷ [])
 
 abbrev pub MarkedAtThePadding : Type 0
 MarkedAtThePadding = Runs 4 marked_at_the_padding [] 8 (record {
@@ -198,8 +204,10 @@ PointersInPieces = Runs 4 pointers_in_pieces [] 8 (record {
   output = [];
   nodes = 38;
   bytes = 4;
-  trail = Line 1 ∷ Line 1 ∷ Moved 0 (at 1 (pos 0)) (at 1 (pos 0)) ∷ Line 1 ∷ Moved 1 (at 1 (pos 0)) (at 1 (pos 4)) ∷ Moved 2 (at 1 (pos 0)) (at 1 (pos 2)) ∷ Moved 3 (at 1 (pos 4)) (at 1 (pos 6))
-      ∷ Line 1 ∷ Moved 4 (at 1 (pos 0)) (at 1 (pos 7)) ∷ Moved 5 (at 1 (pos 0)) (at 1 (pos 3)) ∷ Moved 6 (at 1 (pos 3)) (at 1 (pos 3)) ∷ Moved 7 (at 1 (pos 7)) (at 1 (pos 7)) ∷ Line 1
+  trail = Line 1 ∷ Line 1 ∷ Moved 0 (at 1 (pos 0)) (at 1 (pos 0)) ∷ Line 1 ∷ Moved 1 (at 1 (pos 0)) (at 1 (pos 4))
+      ∷ Moved 2 (at 1 (pos 0)) (at 1 (pos 2)) ∷ Moved 3 (at 1 (pos 4)) (at 1 (pos 6))
+      ∷ Line 1 ∷ Moved 4 (at 1 (pos 0)) (at 1 (pos 7)) ∷ Moved 5 (at 1 (pos 0)) (at 1 (pos 3)) ∷ Moved 6 (at 1 (pos 3)) (at 1 (pos 3))
+      ∷ Moved 7 (at 1 (pos 7)) (at 1 (pos 7)) ∷ Line 1
       ∷ Moved 8 (at 1 (pos 0)) (at 1 (pos 4)) ∷ Line 1 ∷ [];
 })
 
@@ -228,7 +236,8 @@ parts_out_of_order =
     ∷ e (Pointer Void) (Convert conversion.PointerToPointer (e (Pointer Char) (Binary op.Add (e (Pointer Char) (Cast (array (Pointer Int) 2 1))) (number 5))))
     ∷ as_number Unsigned (number 1)
     ∷ []))))
-    ∷ gives (e Int (Binary op.Equal (e (Pointer Int) (Index (array (Pointer Int) 2 1) (number 1))) (e (Pointer Int) (Convert conversion.NullToPointer (number 0)))))
+    ∷ gives (e Int (Binary op.Equal (e (Pointer Int) (Index (array (Pointer Int) 2 1) (number 1)))
+    (e (Pointer Int) (Convert conversion.NullToPointer (number 0)))))
     ∷ [])
 
 abbrev pub PartsOutOfOrder : Type 0
@@ -237,8 +246,10 @@ PartsOutOfOrder = Runs 4 parts_out_of_order [] 8 (record {
   output = [];
   nodes = 34;
   bytes = 5;
-  trail = Line 1 ∷ Line 1 ∷ Moved 0 (at 1 (pos 0)) (at 1 (pos 0)) ∷ Line 1 ∷ Moved 1 (at 1 (pos 0)) (at 1 (pos 4)) ∷ Moved 2 (at 1 (pos 0)) (at 1 (pos 3)) ∷ Moved 3 (at 1 (pos 4)) (at 1 (pos 7))
-      ∷ Line 1 ∷ Moved 4 (at 1 (pos 0)) (at 1 (pos 4)) ∷ Moved 5 (at 1 (pos 0)) (at 1 (pos 5)) ∷ Moved 6 (at 1 (pos 5)) (at 1 (pos 5)) ∷ Moved 7 (at 1 (pos 4)) (at 1 (pos 4)) ∷ Line 1
+  trail = Line 1 ∷ Line 1 ∷ Moved 0 (at 1 (pos 0)) (at 1 (pos 0)) ∷ Line 1 ∷ Moved 1 (at 1 (pos 0)) (at 1 (pos 4))
+      ∷ Moved 2 (at 1 (pos 0)) (at 1 (pos 3)) ∷ Moved 3 (at 1 (pos 4)) (at 1 (pos 7))
+      ∷ Line 1 ∷ Moved 4 (at 1 (pos 0)) (at 1 (pos 4)) ∷ Moved 5 (at 1 (pos 0)) (at 1 (pos 5)) ∷ Moved 6 (at 1 (pos 5)) (at 1 (pos 5))
+      ∷ Moved 7 (at 1 (pos 4)) (at 1 (pos 4)) ∷ Line 1
       ∷ Moved 8 (at 1 (pos 0)) (at 1 (pos 4)) ∷ [];
 })
 
@@ -249,9 +260,11 @@ forged =
     main_of (in_memory Int 4 ∷ variable (Pointer (Pointer Int)) ∷ variable Int ∷ [])
     (starts 0 (number 0)
     ∷ starts 1 (e (Pointer (Pointer Int)) (Cast (e (Pointer Int) (Unary unary.Address (local 0)))))
-    ∷ starts 2 (e Int (Binary op.Equal (e (Pointer Int) (Unary unary.Dereference (named (Pointer (Pointer Int)) 1))) (e (Pointer Int) (Convert conversion.NullToPointer (number 0)))))
+    ∷ starts 2 (e Int (Binary op.Equal (e (Pointer Int) (Unary unary.Dereference (named (Pointer (Pointer Int)) 1)))
+    (e (Pointer Int) (Convert conversion.NullToPointer (number 0)))))
     ∷ does (set (local 0) (number 4096))
-    ∷ gives (e Int (Binary op.Equal (e (Pointer Int) (Unary unary.Dereference (named (Pointer (Pointer Int)) 1))) (e (Pointer Int) (Convert conversion.NullToPointer (number 0)))))
+    ∷ gives (e Int (Binary op.Equal (e (Pointer Int) (Unary unary.Dereference (named (Pointer (Pointer Int)) 1)))
+    (e (Pointer Int) (Convert conversion.NullToPointer (number 0)))))
     ∷ [])
 
 abbrev pub Forged : Type 0
@@ -270,7 +283,8 @@ parts_are_no_numbers =
     main_of (in_memory Int 4 ∷ in_memory (Pointer Int) 4 ∷ [])
     (declared 0
     ∷ starts 1 (e (Pointer Int) (Unary unary.Address (local 0)))
-    ∷ gives (as_number Int (e Char (Unary unary.Dereference (e (Pointer Char) (Cast (e (Pointer (Pointer Int)) (Unary unary.Address (named (Pointer Int) 1))))))))
+    ∷ gives (as_number Int (e Char
+    (Unary unary.Dereference (e (Pointer Char) (Cast (e (Pointer (Pointer Int)) (Unary unary.Address (named (Pointer Int) 1))))))))
     ∷ [])
 
 abbrev pub PartsAreNoNumbers : Type 0
@@ -288,7 +302,8 @@ PartsAreNoNumbers = Runs 4 parts_are_no_numbers [] 8 (record {
 abbrev pub dead_may_be_kept : CProgram
 dead_may_be_kept =
     program [] [] []
-    (function 1 (Pointer Char) 0 (in_memory Char 1 ∷ []) (Block here (block (declared 0 ∷ gives (e (Pointer Char) (Unary unary.Address (named Char 0))) ∷ [])))
+    (function 1 (Pointer Char) 0 (in_memory Char 1 ∷ [])
+    (Block here (block (declared 0 ∷ gives (e (Pointer Char) (Unary unary.Address (named Char 0))) ∷ [])))
     ∷ function 1 Int 0 (variable (Pointer Char) ∷ variable (Pointer Char) ∷ [])
     (Block here
     (block
@@ -323,9 +338,11 @@ DeadMayBeKept = Runs 4 dead_may_be_kept [] 8 (record {
 abbrev pub dead_is_not_compared : CProgram
 dead_is_not_compared =
     program [] [] []
-    (function 1 (Pointer Char) 0 (in_memory Char 1 ∷ []) (Block here (block (declared 0 ∷ gives (e (Pointer Char) (Unary unary.Address (named Char 0))) ∷ [])))
+    (function 1 (Pointer Char) 0 (in_memory Char 1 ∷ [])
+    (Block here (block (declared 0 ∷ gives (e (Pointer Char) (Unary unary.Address (named Char 0))) ∷ [])))
     ∷ function 1 Int 0 (variable (Pointer Char) ∷ [])
-    (Block here (block (starts 0 (e (Pointer Char) (Call (Defined 0) given_none)) ∷ gives (e Int (Binary op.Equal (named (Pointer Char) 0) (named (Pointer Char) 0))) ∷ [])))
+    (Block here (block (starts 0 (e (Pointer Char) (Call (Defined 0) given_none))
+    ∷ gives (e Int (Binary op.Equal (named (Pointer Char) 0) (named (Pointer Char) 0))) ∷ [])))
     ∷ [])
     1
 
@@ -343,9 +360,11 @@ DeadIsNotCompared = Runs 4 dead_is_not_compared [] 8 (record {
 abbrev pub dead_is_not_tested : CProgram
 dead_is_not_tested =
     program [] [] []
-    (function 1 (Pointer Char) 0 (in_memory Char 1 ∷ []) (Block here (block (declared 0 ∷ gives (e (Pointer Char) (Unary unary.Address (named Char 0))) ∷ [])))
+    (function 1 (Pointer Char) 0 (in_memory Char 1 ∷ [])
+    (Block here (block (declared 0 ∷ gives (e (Pointer Char) (Unary unary.Address (named Char 0))) ∷ [])))
     ∷ function 1 Int 0 (variable (Pointer Char) ∷ [])
-    (Block here (block (starts 0 (e (Pointer Char) (Call (Defined 0) given_none)) ∷ If here (named (Pointer Char) 0) (gives (number 1)) ∷ gives (number 2) ∷ [])))
+    (Block here (block (starts 0 (e (Pointer Char) (Call (Defined 0) given_none)) ∷ If here (named (Pointer Char) 0) (gives (number 1)) ∷ gives (number 2)
+    ∷ [])))
     ∷ [])
     1
 
@@ -363,9 +382,11 @@ DeadIsNotTested = Runs 4 dead_is_not_tested [] 8 (record {
 abbrev pub dead_before_across : CProgram
 dead_before_across =
     program [] [] []
-    (function 1 (Pointer Char) 0 (in_memory Char 1 ∷ []) (Block here (block (declared 0 ∷ gives (e (Pointer Char) (Unary unary.Address (named Char 0))) ∷ [])))
+    (function 1 (Pointer Char) 0 (in_memory Char 1 ∷ [])
+    (Block here (block (declared 0 ∷ gives (e (Pointer Char) (Unary unary.Address (named Char 0))) ∷ [])))
     ∷ function 1 Int 0 (variable (Pointer Char) ∷ [])
-    (Block here (block (starts 0 (e (Pointer Char) (Call (Defined 0) given_none)) ∷ gives (e Int (Binary op.Less (named (Pointer Char) 0) (e (Pointer Char) (Cast (number 0))))) ∷ [])))
+    (Block here (block (starts 0 (e (Pointer Char) (Call (Defined 0) given_none))
+    ∷ gives (e Int (Binary op.Less (named (Pointer Char) 0) (e (Pointer Char) (Cast (number 0))))) ∷ [])))
     ∷ [])
     1
 
@@ -423,7 +444,8 @@ Apart = Runs 4 apart [] 8 (record {
   output = [];
   nodes = 32;
   bytes = 0;
-  trail = Line 1 ∷ Line 1 ∷ Moved 0 (at 0 (pos 0)) (at 0 (pos 16)) ∷ Moved 1 (at 0 (pos 0)) (at 0 (below 1)) ∷ Moved 2 (at 0 (pos 0)) (at 0 (pos 17)) ∷ Moved 3 (at 0 (pos 0)) (at 0 (pos 17)) ∷ [];
+  trail = Line 1 ∷ Line 1 ∷ Moved 0 (at 0 (pos 0)) (at 0 (pos 16)) ∷ Moved 1 (at 0 (pos 0)) (at 0 (below 1)) ∷ Moved 2 (at 0 (pos 0)) (at 0 (pos 17))
+      ∷ Moved 3 (at 0 (pos 0)) (at 0 (pos 17)) ∷ [];
 })
 
 -- They are not ordered.

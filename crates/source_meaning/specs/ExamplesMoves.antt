@@ -5,15 +5,17 @@ use Rattle.c_words.specs.declared.operators.UnaryOperator.TheVariants as unary
 use Rattle.c_words.specs.declared.operators.StepOperator.TheVariants as step
 use Rattle.c_words.specs.declared.operators.BinaryOperator.TheVariants as op
 use Rattle.c_words.specs.declared.operators.AssignOperator.TheVariants as assign
-use Rattle.c_typed.specs.declared.typed_expr.Called.TheVariants.{Defined}
-use Rattle.c_typed.specs.declared.typed_expr.Conversion.TheVariants as conversion
-use Rattle.c_typed.specs.Types.CType.{Char, Int, Unsigned, Struct, Pointer, Array}
-use Rattle.c_typed.specs.TypedTree.{CInitial, CStart, CProgram}
-use Rattle.c_typed.specs.TypedTree.CForm.{Local, Number, Convert, Index, Call, Member, Arrow, StepBefore, StepAfter, Unary, Binary, Conditional, Assign, Comma, SizeofExpression}
-use Rattle.c_typed.specs.TypedTree.CStmt.{Block, Declare, Eval, If, IfElse, While, Do, For, Return}
+use Rattle.typed_tree.specs.declared.typed_expr.Called.TheVariants.{Defined}
+use Rattle.typed_tree.specs.declared.typed_expr.Conversion.TheVariants as conversion
+use Rattle.typed_tree.specs.Types.CType.{Char, Int, Unsigned, Struct, Pointer, Array}
+use Rattle.typed_tree.specs.TypedTree.{CInitial, CStart, CProgram}
+use Rattle.typed_tree.specs.TypedTree.CForm.{Local, Number, Convert, Index, Call, Member, Arrow, StepBefore}
+use Rattle.typed_tree.specs.TypedTree.CForm.{StepAfter, Unary, Binary, Conditional, Assign, Comma, SizeofExpression}
+use Rattle.typed_tree.specs.TypedTree.CStmt.{Block, Declare, Eval, If, IfElse, While, Do, For, Return}
 use Rattle.source_meaning.specs.declared.values.Ending.TheVariants.{Exited, Reported}
 use Rattle.source_meaning.specs.Worlds.Mark.{Line, Moved}
-use Rattle.source_meaning.specs.Examples.{on, here, e_on, e, number, local, named, array, as_number, set, does, gives, declared, starts, given, parts, declares, declares_with, block, variable, in_memory, function, member, struct, program, main_of, below, at, Runs}
+use Rattle.source_meaning.specs.Examples.{on, here, e_on, e, number, local, named, array, as_number, set, does, gives, declared, starts, given, parts}
+use Rattle.source_meaning.specs.Examples.{declares, declares_with, block, variable, in_memory, function, member, struct, program, main_of, below, at, Runs}
 
 -- The last places on both sides of 16 bytes are 23 and -8; an index, `+`, `+=` and `--` lead there.
 --   int main(void) { char a[16]; char *p; p = a + 23; p = &a[-8]; p += 31; p--; return p - a; }
@@ -35,7 +37,8 @@ WithinReach = Runs 4 within_reach [] 8 (record {
   output = [];
   nodes = 29;
   bytes = 0;
-  trail = Line 1 ∷ Line 1 ∷ Moved 0 (at 0 (pos 0)) (at 0 (pos 23)) ∷ Line 1 ∷ Moved 1 (at 0 (pos 0)) (at 0 (below 8)) ∷ Line 1 ∷ Moved 2 (at 0 (below 8)) (at 0 (pos 23)) ∷ Line 1
+  trail = Line 1 ∷ Line 1 ∷ Moved 0 (at 0 (pos 0)) (at 0 (pos 23)) ∷ Line 1 ∷ Moved 1 (at 0 (pos 0)) (at 0 (below 8)) ∷ Line 1
+      ∷ Moved 2 (at 0 (below 8)) (at 0 (pos 23)) ∷ Line 1
       ∷ Moved 3 (at 0 (pos 23)) (at 0 (pos 22)) ∷ Line 1 ∷ [];
 })
 
@@ -55,7 +58,8 @@ past_the_end =
     ∷ Eval (on 4)
     (e_on 4 (Pointer Char)
     (Assign assign.Assign (e_on 4 (Pointer Char) (Local 1))
-    (e_on 5 (Pointer Char) (Binary op.Add (e_on 4 (Pointer Char) (Convert conversion.ArrayToPointer (e_on 4 (Array Char 16) (Local 0)))) (e_on 5 Int (Number 24))))))
+    (e_on 5 (Pointer Char) (Binary op.Add (e_on 4 (Pointer Char) (Convert conversion.ArrayToPointer (e_on 4 (Array Char 16) (Local 0))))
+    (e_on 5 Int (Number 24))))))
     ∷ Return (on 6) (Some (e_on 6 Int (Number 0)))
     ∷ [])
 
@@ -73,7 +77,8 @@ PastTheEnd = Runs 4 past_the_end [] 8 (record {
 abbrev pub below_the_start : CProgram
 below_the_start =
     main_of (in_memory (Array Char 16) 16 ∷ variable (Pointer Char) ∷ [])
-    (declared 0 ∷ starts 1 (e (Pointer Char) (Unary unary.Address (e Char (Index (array Char 16 0) (e Int (Unary unary.Minus (number 9))))))) ∷ gives (number 0) ∷ [])
+    (declared 0 ∷ starts 1 (e (Pointer Char) (Unary unary.Address (e Char (Index (array Char 16 0) (e Int (Unary unary.Minus (number 9)))))))
+    ∷ gives (number 0) ∷ [])
 
 abbrev pub BelowTheStart : Type 0
 BelowTheStart = Runs 4 below_the_start [] 8 (record {
@@ -143,7 +148,8 @@ members =
     ∷ does
     (set (e Char (Index (e (Pointer Char) (Convert conversion.ArrayToPointer (e (Array Char 6) (Arrow (named (Pointer (Struct 0)) 1) 2)))) (number 2)))
     (as_number Char (e Int (Binary op.Add (e Int (Member (named (Struct 0) 0) 1)) (e Int (Arrow (named (Pointer (Struct 0)) 1) 0))))))
-    ∷ gives (e Int (Call (Defined 0) (given (e (Pointer Char) (Convert conversion.ArrayToPointer (e (Array Char 6) (Member (named (Struct 0) 0) 2))) ∷ []))))
+    ∷ gives (e Int (Call (Defined 0)
+    (given (e (Pointer Char) (Convert conversion.ArrayToPointer (e (Array Char 6) (Member (named (Struct 0) 0) 2))) ∷ []))))
     ∷ [])))
     ∷ [])
     1
@@ -154,15 +160,18 @@ Members = Runs 4 members [] 8 (record {
   output = [];
   nodes = 38;
   bytes = 0;
-  trail = Line 1 ∷ Line 1 ∷ Moved 1 (at 0 (pos 0)) (at 0 (pos 4)) ∷ Line 1 ∷ Line 1 ∷ Moved 2 (at 0 (pos 0)) (at 0 (pos 8)) ∷ Moved 3 (at 0 (pos 8)) (at 0 (pos 10))
-      ∷ Moved 4 (at 0 (pos 0)) (at 0 (pos 4)) ∷ Line 1 ∷ Moved 5 (at 0 (pos 0)) (at 0 (pos 8)) ∷ Line 1 ∷ Line 1 ∷ Moved 0 (at 0 (pos 8)) (at 0 (pos 10)) ∷ [];
+  trail = Line 1 ∷ Line 1 ∷ Moved 1 (at 0 (pos 0)) (at 0 (pos 4)) ∷ Line 1 ∷ Line 1 ∷ Moved 2 (at 0 (pos 0)) (at 0 (pos 8))
+      ∷ Moved 3 (at 0 (pos 8)) (at 0 (pos 10))
+      ∷ Moved 4 (at 0 (pos 0)) (at 0 (pos 4)) ∷ Line 1 ∷ Moved 5 (at 0 (pos 0)) (at 0 (pos 8)) ∷ Line 1 ∷ Line 1
+      ∷ Moved 0 (at 0 (pos 8)) (at 0 (pos 10)) ∷ [];
 })
 
 -- The distance of an index wraps: 0x40000000 ints are no bytes at all.
 --   int main(void) { int a[1]; a[0x40000000] = 5; return a[0]; }
 abbrev pub wrapped_distance : CProgram
 wrapped_distance =
-    main_of (in_memory (Array Int 1) 4 ∷ []) (declared 0 ∷ does (set (e Int (Index (array Int 1 0) (number 1073741824))) (number 5)) ∷ gives (e Int (Index (array Int 1 0) (number 0))) ∷ [])
+    main_of (in_memory (Array Int 1) 4 ∷ [])
+    (declared 0 ∷ does (set (e Int (Index (array Int 1 0) (number 1073741824))) (number 5)) ∷ gives (e Int (Index (array Int 1 0) (number 0))) ∷ [])
 
 abbrev pub WrappedDistance : Type 0
 WrappedDistance = Runs 4 wrapped_distance [] 8 (record {
@@ -205,10 +214,12 @@ sites_of_parts =
     (Declare (declares_with here 0 (CInitial.Braces here (parts (CInitial.Value (number 1) ∷ []))))
     ∷ Declare
     (declares_with here 1
-    (CInitial.Braces here (parts (CInitial.Value (e Int (Index (array Int 4 0) (number 0))) ∷ CInitial.Value (e Int (Index (array Int 4 0) (number 1))) ∷ []))))
+    (CInitial.Braces here (parts (CInitial.Value (e Int (Index (array Int 4 0) (number 0))) ∷ CInitial.Value (e Int (Index (array Int 4 0) (number 1)))
+    ∷ []))))
     ∷ starts 2
     (e Int
-    (Binary op.Add (e Int (Conditional (e Int (Index (array Int 4 0) (number 1))) (e Int (Index (array Int 4 0) (number 2))) (e Int (Index (array Int 4 0) (number 3)))))
+    (Binary op.Add (e Int (Conditional (e Int (Index (array Int 4 0) (number 1))) (e Int (Index (array Int 4 0) (number 2)))
+    (e Int (Index (array Int 4 0) (number 3)))))
     (e Int (Conditional (e Int (Index (array Int 4 0) (number 0))) (e Int (Index (array Int 4 0) (number 1))) (e Int (Index (array Int 4 0) (number 2)))))))
     ∷ If here (e Int (Index (array Int 4 0) (number 0))) (does (set (e Int (Index (array Int 2 1) (number 1))) (number 2)))
     ∷ IfElse here (e Int (Index (array Int 4 0) (number 1))) (does (set (e Int (Index (array Int 4 0) (number 2))) (number 5)))
@@ -234,11 +245,16 @@ SitesOfParts = Runs 4 sites_of_parts [] 8 (record {
   output = [];
   nodes = 97;
   bytes = 36;
-  trail = Line 1 ∷ Moved 0 (at 0 (pos 0)) (at 0 (pos 0)) ∷ Moved 1 (at 0 (pos 0)) (at 0 (pos 4)) ∷ Moved 2 (at 0 (pos 0)) (at 0 (pos 4)) ∷ Moved 4 (at 0 (pos 0)) (at 0 (pos 12))
-      ∷ Moved 5 (at 0 (pos 0)) (at 0 (pos 0)) ∷ Moved 6 (at 0 (pos 0)) (at 0 (pos 4)) ∷ Line 1 ∷ Moved 8 (at 0 (pos 0)) (at 0 (pos 0)) ∷ Line 1 ∷ Moved 9 (at 1 (pos 0)) (at 1 (pos 4)) ∷ Line 1
-      ∷ Moved 10 (at 0 (pos 0)) (at 0 (pos 4)) ∷ Line 1 ∷ Moved 12 (at 0 (pos 0)) (at 0 (pos 12)) ∷ Moved 13 (at 0 (pos 0)) (at 0 (pos 0)) ∷ Moved 14 (at 0 (pos 0)) (at 0 (pos 0)) ∷ Line 1
-      ∷ Moved 15 (at 1 (pos 0)) (at 1 (pos 0)) ∷ Line 1 ∷ Moved 16 (at 1 (pos 0)) (at 1 (pos 0)) ∷ Moved 15 (at 1 (pos 0)) (at 1 (pos 0)) ∷ Line 1 ∷ Moved 17 (at 0 (pos 0)) (at 0 (pos 0))
-      ∷ Moved 18 (at 1 (pos 0)) (at 1 (pos 0)) ∷ Line 1 ∷ Line 1 ∷ Moved 19 (at 1 (pos 0)) (at 1 (pos 4)) ∷ Moved 20 (at 0 (pos 0)) (at 0 (pos 4)) ∷ Moved 21 (at 0 (pos 0)) (at 0 (pos 8)) ∷ [];
+  trail = Line 1 ∷ Moved 0 (at 0 (pos 0)) (at 0 (pos 0)) ∷ Moved 1 (at 0 (pos 0)) (at 0 (pos 4)) ∷ Moved 2 (at 0 (pos 0)) (at 0 (pos 4))
+      ∷ Moved 4 (at 0 (pos 0)) (at 0 (pos 12))
+      ∷ Moved 5 (at 0 (pos 0)) (at 0 (pos 0)) ∷ Moved 6 (at 0 (pos 0)) (at 0 (pos 4)) ∷ Line 1 ∷ Moved 8 (at 0 (pos 0)) (at 0 (pos 0)) ∷ Line 1
+      ∷ Moved 9 (at 1 (pos 0)) (at 1 (pos 4)) ∷ Line 1
+      ∷ Moved 10 (at 0 (pos 0)) (at 0 (pos 4)) ∷ Line 1 ∷ Moved 12 (at 0 (pos 0)) (at 0 (pos 12)) ∷ Moved 13 (at 0 (pos 0)) (at 0 (pos 0))
+      ∷ Moved 14 (at 0 (pos 0)) (at 0 (pos 0)) ∷ Line 1
+      ∷ Moved 15 (at 1 (pos 0)) (at 1 (pos 0)) ∷ Line 1 ∷ Moved 16 (at 1 (pos 0)) (at 1 (pos 0)) ∷ Moved 15 (at 1 (pos 0)) (at 1 (pos 0)) ∷ Line 1
+      ∷ Moved 17 (at 0 (pos 0)) (at 0 (pos 0))
+      ∷ Moved 18 (at 1 (pos 0)) (at 1 (pos 0)) ∷ Line 1 ∷ Line 1 ∷ Moved 19 (at 1 (pos 0)) (at 1 (pos 4)) ∷ Moved 20 (at 0 (pos 0)) (at 0 (pos 4))
+      ∷ Moved 21 (at 0 (pos 0)) (at 0 (pos 8)) ∷ [];
 })
 
 -- The numbers of moves follow the text: in `for` the step comes before the body, in `do` the body before the condition;
@@ -252,7 +268,8 @@ sites_in_order =
     ∷ declared 1
     ∷ starts 2 (array Int 9 0)
     ∷ For here (CStart.Eval (set (local 1) (number 0)))
-    (Some (e Int (Binary op.LogicalAnd (e Int (Binary op.Equal (e Int (Index (array Int 9 0) (local 1))) (number 0))) (e Int (Binary op.Less (local 1) (number 1))))))
+    (Some (e Int (Binary op.LogicalAnd (e Int (Binary op.Equal (e Int (Index (array Int 9 0) (local 1))) (number 0)))
+    (e Int (Binary op.Less (local 1) (number 1))))))
     (Some (set (e Int (Index (array Int 9 0) (e Int (Binary op.Add (local 1) (number 1))))) (e Int (StepAfter step.Increment (local 1)))))
     (does (set (e Int (Index (array Int 9 0) (e Int (Binary op.Add (local 1) (number 4))))) (number 5)))
     ∷ Do here (does (set (e Int (Unary unary.Dereference (e (Pointer Int) (StepAfter step.Increment (named (Pointer Int) 2))))) (number 1)))
@@ -270,6 +287,8 @@ SitesInOrder = Runs 4 sites_in_order [] 8 (record {
   output = [];
   nodes = 61;
   bytes = 0;
-  trail = Line 1 ∷ Line 1 ∷ Moved 0 (at 0 (pos 0)) (at 0 (pos 0)) ∷ Line 1 ∷ Moved 2 (at 0 (pos 0)) (at 0 (pos 16)) ∷ Moved 1 (at 0 (pos 0)) (at 0 (pos 4)) ∷ Moved 0 (at 0 (pos 0)) (at 0 (pos 4))
-      ∷ Line 1 ∷ Line 1 ∷ Moved 3 (at 0 (pos 0)) (at 0 (pos 4)) ∷ Moved 4 (at 0 (pos 4)) (at 0 (pos 8)) ∷ Line 1 ∷ Moved 5 (at 0 (pos 0)) (at 0 (pos 16)) ∷ [];
+  trail = Line 1 ∷ Line 1 ∷ Moved 0 (at 0 (pos 0)) (at 0 (pos 0)) ∷ Line 1 ∷ Moved 2 (at 0 (pos 0)) (at 0 (pos 16))
+      ∷ Moved 1 (at 0 (pos 0)) (at 0 (pos 4)) ∷ Moved 0 (at 0 (pos 0)) (at 0 (pos 4))
+      ∷ Line 1 ∷ Line 1 ∷ Moved 3 (at 0 (pos 0)) (at 0 (pos 4)) ∷ Moved 4 (at 0 (pos 4)) (at 0 (pos 8)) ∷ Line 1
+      ∷ Moved 5 (at 0 (pos 0)) (at 0 (pos 16)) ∷ [];
 })

@@ -5,8 +5,8 @@ use Rattle.bb_words.specs.Answers.{Answer, Goes, Ends}
 use Rattle.bb_words.specs.declared.steps.Width.{Width}
 use Rattle.bb_words.specs.declared.steps.OrderOp.{OrderOp}
 use Rattle.block_layout.specs.Layout.{Item}
-use Rattle.c_typed.specs.declared.typed_expr.LibCall.{LibCall}
-use Rattle.c_typed.specs.TypedTree.{CExpr, CStmt, CLocal, CProgram}
+use Rattle.typed_tree.specs.declared.typed_expr.LibCall.{LibCall}
+use Rattle.typed_tree.specs.TypedTree.{CExpr, CStmt, CLocal, CProgram}
 use Rattle.source_meaning.specs.declared.values.Want.{Want}
 use Rattle.source_meaning.specs.declared.values.Pointer.{Pointer}
 use Rattle.source_meaning.specs.declared.values.Value.{Value}

@@ -7,14 +7,14 @@ use Rattle.bb_words.specs.declared.steps.Width.TheVariants as width
 use Rattle.block_layout.specs.Layout.{layout}
 use Rattle.block_layout.specs.Objects.{global_items}
 use Rattle.c_words.specs.declared.place.At.{At}
-use Rattle.c_typed.specs.declared.typed.GlobalObject.{GlobalObject}
-use Rattle.c_typed.specs.declared.typed.GlobalObject.TheVariants as global
-use Rattle.c_typed.specs.declared.typed_expr.Called.{Called}
-use Rattle.c_typed.specs.declared.typed_expr.Called.TheVariants.{Defined, Library}
-use Rattle.c_typed.specs.Types.{CType, is_struct}
-use Rattle.c_typed.specs.Sizes.{size_of}
-use Rattle.c_typed.specs.TypedRules.{part_type}
-use Rattle.c_typed.specs.TypedTree.{CExpr, CForm, CExprs, CInitial, CInitials, CInitializer, CDeclaration, CStart, CStmt, CStmts, CLocal, CProgram, type_of}
+use Rattle.typed_tree.specs.declared.typed.GlobalObject.{GlobalObject}
+use Rattle.typed_tree.specs.declared.typed.GlobalObject.TheVariants as global
+use Rattle.typed_tree.specs.declared.typed_expr.Called.{Called}
+use Rattle.typed_tree.specs.declared.typed_expr.Called.TheVariants.{Defined, Library}
+use Rattle.typed_tree.specs.Types.{CType, is_struct}
+use Rattle.typed_tree.specs.Sizes.{size_of}
+use Rattle.typed_tree.specs.TypedRules.{part_type}
+use Rattle.typed_tree.specs.TypedTree.{CExpr, CForm, CExprs, CInitial, CInitials, CInitializer, CDeclaration, CStart, CStmt, CStmts, CLocal, CProgram, type_of}
 use Rattle.source_meaning.specs.declared.values.Pointer.{Pointer}
 use Rattle.source_meaning.specs.declared.values.Pointer.TheVariants.{Null}
 use Rattle.source_meaning.specs.declared.values.Value.{Value}
@@ -35,9 +35,12 @@ use Rattle.source_meaning.specs.Copies.{clear, initialize}
 use Rattle.source_meaning.specs.Accounts.{library}
 use Rattle.source_meaning.specs.Start.{pointer_to}
 use Rattle.source_meaning.specs.Moves.{distance}
-use Rattle.source_meaning.specs.Sites.{pointee, offset_at, sites_of, sites_of_all, sites_of_initial, sites_of_initializer, sites_of_start, sites_of_option, sites_of_stmt}
-use Rattle.source_meaning.specs.States.{State, Runs, count, tick, doing, giving, senseless, using_value, using_number, using_pointer, using_place, using_address, local_place, with_slot, width_of, finish}
-use Rattle.source_meaning.specs.Operators.{reach, reach_member, cast, wanted_by_conversion, convert, wanted_by_operator, on_unary, run_binary, on_step, run_assign, on_copy}
+use Rattle.source_meaning.specs.Sites.{pointee, offset_at, sites_of, sites_of_all, sites_of_initial}
+use Rattle.source_meaning.specs.Sites.{sites_of_initializer, sites_of_start, sites_of_option, sites_of_stmt}
+use Rattle.source_meaning.specs.States.{State, Runs, count, tick, doing, giving, senseless, using_value, using_number}
+use Rattle.source_meaning.specs.States.{using_pointer, using_place, using_address, local_place, with_slot, width_of, finish}
+use Rattle.source_meaning.specs.Operators.{reach, reach_member, cast, wanted_by_conversion, convert}
+use Rattle.source_meaning.specs.Operators.{wanted_by_operator, on_unary, run_binary, on_step, run_assign, on_copy}
 
 -- how a call of function f with these arguments answers
 abbrev pub Calls : Type 0

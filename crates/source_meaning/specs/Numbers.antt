@@ -4,7 +4,7 @@ use Rattle.bb_words.specs.Answers.{Goes, Ends}
 use Rattle.bb_words.specs.declared.kinds.ReportKind.TheVariants.{DivZero}
 use Rattle.c_words.specs.declared.operators.BinaryOperator.{BinaryOperator}
 use Rattle.c_words.specs.declared.operators.BinaryOperator.TheVariants as op
-use Rattle.c_typed.specs.Numbers.{quotient, remainder, on_numbers}
+use Rattle.typed_tree.specs.Numbers.{quotient, remainder, on_numbers}
 use Rattle.source_meaning.specs.declared.values.Value.{Value}
 use Rattle.source_meaning.specs.declared.values.Value.TheVariants.{Num}
 use Rattle.source_meaning.specs.declared.values.Ending.TheVariants.{Reported}

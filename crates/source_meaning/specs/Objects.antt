@@ -1,6 +1,7 @@
 -- Objects, and what their bytes hold. An object has cells; a cell holds a byte, or a part of a pointer. So a pointer that
 -- is stored in memory stays a pointer, and nothing else can become one (C11 6.2.6.1, 6.3.2.3).
-use Rattle.std.specs.Prelude.{◌==◌, ℕ, zero, suc, ◌+◌, ◌*◌, ◌/◌, ◌%◌, ◌^◌, Bool, true, false, ◌&&◌, if◌then◌else◌, List, [], ◌∷◌, map, Option, Some, None, slice_set, ℤ, pos, negsuc}
+use Rattle.std.specs.Prelude.{◌==◌, ℕ, zero, suc, ◌+◌, ◌*◌, ◌/◌, ◌%◌, ◌^◌, Bool, true, false, ◌&&◌}
+use Rattle.std.specs.Prelude.{if◌then◌else◌, List, [], ◌∷◌, map, Option, Some, None, slice_set, ℤ, pos, negsuc}
 use Rattle.bb_words.specs.declared.steps.Width.{Width}
 use Rattle.bb_words.specs.declared.steps.Width.TheVariants as width
 use Rattle.source_meaning.specs.declared.values.Pointer.{Pointer}

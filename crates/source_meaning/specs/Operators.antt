@@ -12,11 +12,11 @@ use Rattle.c_words.specs.declared.operators.BinaryOperator.{BinaryOperator}
 use Rattle.c_words.specs.declared.operators.BinaryOperator.TheVariants as op
 use Rattle.c_words.specs.declared.operators.AssignOperator.{AssignOperator}
 use Rattle.c_words.specs.declared.operators.AssignOperator.TheVariants as assign
-use Rattle.c_typed.specs.declared.typed_expr.Conversion.{Conversion}
-use Rattle.c_typed.specs.declared.typed_expr.Conversion.TheVariants as conversion
-use Rattle.c_typed.specs.Types.{CType, is_pointer, is_struct, is_unsigned}
-use Rattle.c_typed.specs.Sizes.{size_of}
-use Rattle.c_typed.specs.TypedTree.{CStruct}
+use Rattle.typed_tree.specs.declared.typed_expr.Conversion.{Conversion}
+use Rattle.typed_tree.specs.declared.typed_expr.Conversion.TheVariants as conversion
+use Rattle.typed_tree.specs.Types.{CType, is_pointer, is_struct, is_unsigned}
+use Rattle.typed_tree.specs.Sizes.{size_of}
+use Rattle.typed_tree.specs.TypedTree.{CStruct}
 use Rattle.source_meaning.specs.declared.values.Pointer.{Pointer}
 use Rattle.source_meaning.specs.declared.values.Pointer.TheVariants.{Null}
 use Rattle.source_meaning.specs.declared.values.Value.{Value}
@@ -32,7 +32,7 @@ use Rattle.source_meaning.specs.Worlds.{World, Does, outside, with_number, with_
 use Rattle.source_meaning.specs.Moves.{move, distance}
 use Rattle.source_meaning.specs.Comparisons.{same, ordered, elements_between, truth}
 use Rattle.source_meaning.specs.Copies.{copy}
-use Rattle.c_typed.specs.Numbers.{fitted}
+use Rattle.typed_tree.specs.Numbers.{fitted}
 use Rattle.source_meaning.specs.Numbers.{calculated}
 use Rattle.source_meaning.specs.Sites.{pointee}
 use Rattle.source_meaning.specs.States.{State, Runs, doing, giving, using_value, using_number, using_pointer, using_place, using_address, read, write, finish}
@@ -118,7 +118,8 @@ abbrev pub unlike : Value → Value → World → Does Value
 unlike v x w = and_then (same v x w) (λ r. with_number r (λ n. Goes (Num (difference 1 n))))
 
 -- An operator on two values of these types, of which a pointer moves with this number and line.
-abbrev pub on_binary : List CStruct → (g site : ℕ) → BinaryOperator → (is_unsigned : Bool) → (line : ℕ) → (t u : CType) → (v x : Value) → World → Does Value
+abbrev pub on_binary : List CStruct → (g site : ℕ) → BinaryOperator → (is_unsigned : Bool) → (line : ℕ) → (t u : CType) → (v x : Value)
+    → World → Does Value
 on_binary structs g site op.Add s line t u v x w =
     either (is_pointer t) (move_by g site line false (size_of structs (pointee t)) v x)
     (either (is_pointer u) (move_by g site line false (size_of structs (pointee u)) x v)
@@ -141,13 +142,15 @@ abbrev pub decided_by : (State → Runs Held) → State → Runs Held
 decided_by b c = and_then (b c) (λ y. using_value y (λ v c1. and_then (doing (truth v) c1) (λ r. Goes (Of (Num (flag r))))))
 
 -- An operator between two operands. All but `&&` and `||` evaluate both, the left one first.
-abbrev pub run_binary : List CStruct → (g site : ℕ) → BinaryOperator → (line : ℕ) → (t u : CType) → (a b : State → Runs Held) → State → Runs Held
+abbrev pub run_binary : List CStruct → (g site : ℕ) → BinaryOperator → (line : ℕ) → (t u : CType) → (a b : State → Runs Held) → State
+    → Runs Held
 run_binary structs g site op.LogicalAnd line t u a b c =
     and_then (a c) (λ x. using_value x (λ v c1. and_then (doing (truth v) c1) (λ s. either s (decided_by b) (Goes (Of (Num 0))))))
 run_binary structs g site op.LogicalOr line t u a b c =
     and_then (a c) (λ x. using_value x (λ v c1. and_then (doing (truth v) c1) (λ s. either s (Goes (Of (Num 1))) (decided_by b))))
 run_binary structs g site o line t u a b c =
-    and_then (a c) (λ x c1. and_then (b c1) (λ y. using_value x (λ v. using_value y (λ z. giving (on_binary structs g site o (is_unsigned t) line t u v z)))))
+    and_then (a c) (λ x c1. and_then (b c1)
+    (λ y. using_value x (λ v. using_value y (λ z. giving (on_binary structs g site o (is_unsigned t) line t u v z)))))
 
 -- ---- Assignments
 
@@ -212,10 +215,12 @@ on_copy g site line size x y c =
 abbrev pub assign_struct : (g site line size : ℕ) → Held → (Want → State → Runs Held) → State → Runs Held
 assign_struct g site line size x b c = and_then (b ItsPlace c) (on_copy g site line size x)
 
-abbrev pub assign_scalar : List CStruct → (g site line : ℕ) → AssignOperator → (t u : CType) → Held → (Want → State → Runs Held) → State → Runs Held
+abbrev pub assign_scalar : List CStruct → (g site line : ℕ) → AssignOperator → (t u : CType) → Held → (Want → State → Runs Held) → State
+    → Runs Held
 assign_scalar structs g site line o t u x b c =
     and_then (b ItsValue c) (λ y. using_place x (λ q. using_value y (on_assign structs g site line o t u q)))
 
-abbrev pub run_assign : List CStruct → (g site line : ℕ) → AssignOperator → (t u : CType) → Held → (Want → State → Runs Held) → State → Runs Held
+abbrev pub run_assign : List CStruct → (g site line : ℕ) → AssignOperator → (t u : CType) → Held → (Want → State → Runs Held) → State
+    → Runs Held
 run_assign structs g site line o t u x b c =
     either (is_struct t) (assign_struct g site line (size_of structs t) x b) (assign_scalar structs g site line o t u x b) c

@@ -1,13 +1,14 @@
 -- The meaning of calls, and of a whole program: its outcome for an input, where each loop has at most m turns and at most m
 -- calls of its functions are nested.
-use Rattle.std.specs.Prelude.{ℕ, zero, suc, ◌+◌, ◌*◌, nat_le, if◌then◌else◌, List, [], ◌∷◌, length, Option, Some, None, slice_get, slice_index_or}
+use Rattle.std.specs.Prelude.{ℕ, zero, suc, ◌+◌, ◌*◌, nat_le, if◌then◌else◌, List}
+use Rattle.std.specs.Prelude.{[], ◌∷◌, length, Option, Some, None, slice_get, slice_index_or}
 use Rattle.bb_words.specs.Answers.{Goes, Ends, and_then}
 use Rattle.bb_words.specs.declared.kinds.ReportKind.TheVariants.{Depth}
 use Rattle.size_table.specs.declared.memory_map.TheConstants.{MOST_CALLS}
 use Rattle.block_layout.specs.Layout.{Placed, layout, position_of}
 use Rattle.block_layout.specs.Objects.{globals_of, block_items}
-use Rattle.c_typed.specs.Types.{CType, is_pointer}
-use Rattle.c_typed.specs.TypedTree.{CLocal, CFunction, CProgram}
+use Rattle.typed_tree.specs.Types.{CType, is_pointer}
+use Rattle.typed_tree.specs.TypedTree.{CLocal, CFunction, CProgram}
 use Rattle.source_meaning.specs.declared.values.Pointer.TheVariants.{Null}
 use Rattle.source_meaning.specs.declared.values.Value.{Value}
 use Rattle.source_meaning.specs.declared.values.Value.TheVariants.{Num, Ptr}

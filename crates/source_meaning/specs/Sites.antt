@@ -4,13 +4,14 @@
 use Rattle.std.specs.Prelude.{◌==◌, ℕ, suc, zero, ◌+◌, Bool, if◌then◌else◌, List, [], ◌∷◌, Option, Some, None, slice_get}
 use Rattle.c_words.specs.declared.operators.AssignOperator.{AssignOperator}
 use Rattle.c_words.specs.declared.operators.AssignOperator.TheVariants.{Assign}
-use Rattle.c_typed.specs.declared.typed_expr.Called.{Called}
-use Rattle.c_typed.specs.declared.typed_expr.Called.TheVariants.{Defined, Library}
-use Rattle.c_typed.specs.declared.typed_expr.LibCall.{LibCall}
-use Rattle.c_typed.specs.declared.typed_expr.LibCall.TheVariants.{Memcpy, Memset}
-use Rattle.c_typed.specs.Types.{CType, is_pointer, is_struct}
-use Rattle.c_typed.specs.Sizes.{members_of}
-use Rattle.c_typed.specs.TypedTree.{CExpr, CForm, CExprs, CInitial, CInitials, CInitializer, CDeclaration, CStart, CStmt, CStmts, CMember, CStruct, CFunction, type_of}
+use Rattle.typed_tree.specs.declared.typed_expr.Called.{Called}
+use Rattle.typed_tree.specs.declared.typed_expr.Called.TheVariants.{Defined, Library}
+use Rattle.typed_tree.specs.declared.typed_expr.LibCall.{LibCall}
+use Rattle.typed_tree.specs.declared.typed_expr.LibCall.TheVariants.{Memcpy, Memset}
+use Rattle.typed_tree.specs.Types.{CType, is_pointer, is_struct}
+use Rattle.typed_tree.specs.Sizes.{members_of}
+use Rattle.typed_tree.specs.TypedTree.{CExpr, CForm, CExprs, CInitial, CInitials, CInitializer, CDeclaration}
+use Rattle.typed_tree.specs.TypedTree.{CStart, CStmt, CStmts, CMember, CStruct, CFunction, type_of}
 
 -- the type that a pointer points to
 abbrev pub pointee : CType → CType

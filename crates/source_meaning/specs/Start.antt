@@ -3,9 +3,9 @@ use Rattle.std.specs.Prelude.{ℕ, List, [], map, Option, Some, None, slice_get,
 use Rattle.size_table.specs.declared.memory_map.TheConstants.{GLOBALS_START, HEAP_START}
 use Rattle.block_layout.specs.Layout.{Placed, layout, position_of}
 use Rattle.block_layout.specs.Objects.{Stored, items_of, global_number}
-use Rattle.c_typed.specs.declared.typed.GlobalObject.{GlobalObject}
-use Rattle.c_typed.specs.declared.typed.InitialByte.{InitialByte}
-use Rattle.c_typed.specs.declared.typed.InitialByte.TheVariants as initial
+use Rattle.typed_tree.specs.declared.typed.GlobalObject.{GlobalObject}
+use Rattle.typed_tree.specs.declared.typed.InitialByte.{InitialByte}
+use Rattle.typed_tree.specs.declared.typed.InitialByte.TheVariants as initial
 use Rattle.source_meaning.specs.declared.values.Pointer.{Pointer}
 use Rattle.source_meaning.specs.declared.values.Pointer.TheVariants.{To}
 use Rattle.source_meaning.specs.declared.values.Cell.{Cell}

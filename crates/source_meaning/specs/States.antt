@@ -3,7 +3,7 @@ use Rattle.std.specs.Prelude.{◌==◌, ℕ, ◌+◌, if◌then◌else◌, Optio
 use Rattle.bb_words.specs.Answers.{Answer, Goes, Ends, and_then}
 use Rattle.bb_words.specs.declared.steps.Width.{Width}
 use Rattle.bb_words.specs.declared.steps.Width.TheVariants as width
-use Rattle.c_typed.specs.Types.{CType}
+use Rattle.typed_tree.specs.Types.{CType}
 use Rattle.source_meaning.specs.declared.values.Pointer.{Pointer}
 use Rattle.source_meaning.specs.declared.values.Pointer.TheVariants.{To}
 use Rattle.source_meaning.specs.declared.values.Value.{Value}

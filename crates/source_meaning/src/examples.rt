@@ -1,9 +1,14 @@
 //! Small programs, and what the meaning gives for them: their ends, their output, what they count and what they leave
 //! behind. What is expected was worked out apart from the definitions.
-ghost use Rattle.source_meaning.specs.ExamplesMoves.{WithinReach, PastTheEnd, BelowTheStart, WideSlotsAbove, WideSlotsBelow, Members, WrappedDistance, NullDoesNotMove, SitesOfParts, SitesInOrder};
-ghost use Rattle.source_meaning.specs.ExamplesMemory.{LittleEndian, Globals, MarkedBeforeMisaligned, MarkedAtThePadding, MisalignedBeforePadding, Padding, PointersInPieces, PartsOutOfOrder, Forged, PartsAreNoNumbers, DeadMayBeKept, DeadIsNotCompared, DeadIsNotTested, DeadBeforeAcross, Apart, Across, Difference};
-ghost use Rattle.source_meaning.specs.ExamplesCopies.{StructsAreCopied, SourceFirst, ShortTarget, Upwards, Sets, SpanPastTheLength, TooLong, BracesClear, StructParts, Strings};
-ghost use Rattle.source_meaning.specs.ExamplesCalls.{Conversions, Quotients, DivisionByZero, PlaceIsReadLast, Choices, Jumps, NothingReturned, WhileIsCut, DoIsNotCut, DoIsCut, CallIsCut, CutBeforeStack, StackIsFull, Echo, HeapIsReused, BadFree, FreedTwice};
+ghost use Rattle.source_meaning.specs.ExamplesMoves.{WithinReach, PastTheEnd, BelowTheStart, WideSlotsAbove, WideSlotsBelow};
+ghost use Rattle.source_meaning.specs.ExamplesMoves.{Members, WrappedDistance, NullDoesNotMove, SitesOfParts, SitesInOrder};
+ghost use Rattle.source_meaning.specs.ExamplesMemory.{LittleEndian, Globals, MarkedBeforeMisaligned, MarkedAtThePadding, MisalignedBeforePadding};
+ghost use Rattle.source_meaning.specs.ExamplesMemory.{Padding, PointersInPieces, PartsOutOfOrder, Forged, PartsAreNoNumbers, DeadMayBeKept};
+ghost use Rattle.source_meaning.specs.ExamplesMemory.{DeadIsNotCompared, DeadIsNotTested, DeadBeforeAcross, Apart, Across, Difference};
+ghost use Rattle.source_meaning.specs.ExamplesCopies.{StructsAreCopied, SourceFirst, ShortTarget, Upwards, Sets};
+ghost use Rattle.source_meaning.specs.ExamplesCopies.{SpanPastTheLength, TooLong, BracesClear, StructParts, Strings};
+ghost use Rattle.source_meaning.specs.ExamplesCalls.{Conversions, Quotients, DivisionByZero, PlaceIsReadLast, Choices, Jumps, NothingReturned, WhileIsCut};
+ghost use Rattle.source_meaning.specs.ExamplesCalls.{DoIsNotCut, DoIsCut, CallIsCut, CutBeforeStack, StackIsFull, Echo, HeapIsReused, BadFree, FreedTwice};
 ghost use Rattle.source_meaning.specs.ExamplesAccounts.{Layout, RoundedFrame, WideLayout, DepthIsReported};
 
 /// Pointers move as far as they may, and what goes further is reported.

@@ -1,5 +1,5 @@
 use Rattle.std.proofs.Common.{ap, sym, ◌∙◌}
-use Rattle.lowering.specs.declared.error.LowerError.TheVariants.{TooManyValues}
+use Rattle.lowering_counts.specs.declared.error.LowerError.TheVariants.{TooManyValues}
 use Rattle.baggy_tool.specs.Endings.{lower_line}
 use Rattle.baggy_tool.proofs.Noting.{noted_same}
 use Rattle.baggy_tool.proofs.refusals.note_lower_error.Goals as goal

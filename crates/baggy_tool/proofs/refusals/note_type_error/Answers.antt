@@ -1,5 +1,5 @@
 use Rattle.std.proofs.Common.{ap, sym, ◌∙◌}
-use Rattle.c_rules.specs.declared.error.TypeError.TheVariants.{Unknown, Twice, BadType}
+use Rattle.typing_operators.specs.declared.error.TypeError.TheVariants.{Unknown, Twice, BadType}
 use Rattle.baggy_tool.specs.Endings.{typing_line}
 use Rattle.baggy_tool.proofs.Noting.{noted_same}
 use Rattle.baggy_tool.proofs.refusals.note_type_error.Goals as goal

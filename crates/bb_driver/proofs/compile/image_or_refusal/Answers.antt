@@ -1,14 +1,14 @@
-use Rattle.bounds_instr.specs.Code.{global_blocks}
+use Rattle.bounds_instr_code.specs.Code.{global_blocks}
 use Rattle.std.specs.Prelude.{map}
 use Rattle.std.proofs.Common.{◌≡◌, true, sym, ap, subst, [], arith}
 use Rattle.std.proofs.lemmas.Result.{err_from_is_err_and}
-use Rattle.c_typed.specs.TypedViews.{function_of, program_of}
-use Rattle.c_typed.specs.Counts.{nodes_of_functions}
+use Rattle.typed_tree.specs.TypedViews.{function_of, program_of}
+use Rattle.typed_tree.specs.Counts.{nodes_of_functions}
 use Rattle.mid_code.specs.Formed.{Formed}
 use Rattle.mid_code.specs.Safe.{Safe, site_of}
 use Rattle.mid_code.specs.Views as mid
-use Rattle.lowering.specs.Keeps.{Keeps}
-use Rattle.bounds_instr.specs.Built as instr
+use Rattle.lowering_keeps.specs.Keeps.{Keeps}
+use Rattle.bounds_instr_code.specs.Built as instr
 use Rattle.bb_driver.specs.Compiles.{IsMade}
 use Rattle.bb_driver.proofs.Made.{MadeLaws, none_safe, right}
 use Rattle.bb_driver.proofs.Reading.{room_compiles, coded, lower_compiles}

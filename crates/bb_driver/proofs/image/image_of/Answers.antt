@@ -1,6 +1,6 @@
 use Rattle.flat_verify.specs.Views.{block_of}
-use Rattle.flat_verify.specs.Discipline.{IsDisciplined}
-use Rattle.bounds_instr.specs.Code.{global_blocks}
+use Rattle.flat_discipline.specs.Discipline.{IsDisciplined}
+use Rattle.bounds_instr_code.specs.Code.{global_blocks}
 use Rattle.std.proofs.Common.{◌∙◌, ◌≤◌, [], ap, length, refl, sym, arith, ◌≡◌, subst}
 use Rattle.std.proofs.lemmas.List.{length-map}
 use Rattle.std.specs.Prelude.{replicate, map}
@@ -8,7 +8,7 @@ use Rattle.mid_code.specs.Views.{program_of, function_of}
 use Rattle.flat_code.specs.CodeViews.{code_of}
 use Rattle.flat_code.specs.Weight.{weight}
 use Rattle.rv_image.specs.declared.image.Image.{Image}
-use Rattle.rv_select.specs.Selection.{selected}
+use Rattle.rv_selected.specs.Selection.{selected}
 use Rattle.bb_driver.proofs.Images.{IsPlain, made, refused}
 use Rattle.bb_driver.proofs.image.image_of.Goals as goal
 

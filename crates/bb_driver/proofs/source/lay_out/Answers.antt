@@ -2,11 +2,12 @@ use Rattle.std.specs.Prelude.{All, map, take, slice_get, Some}
 use Rattle.std.proofs.Common.{◌≡◌, ◌≤◌, arith, sym, subst}
 use Rattle.std.proofs.lemmas.List.{length-map}
 use Rattle.std.proofs.lemmas.Result.{err_from_is_err_and}
-use Rattle.c_typed.specs.TypedViews.{function_of, program_of}
+use Rattle.typed_tree.specs.TypedViews.{function_of, program_of}
 use Rattle.block_layout.specs.Layout.{AreSmall}
 use Rattle.block_layout.specs.Objects.{block_items}
 use Rattle.block_layout.specs.Answers.{frame_bytes, most_frame_bytes}
-use Rattle.bb_driver.proofs.Frames.{all_at, all_more, all_seen, found_at, globals_refuse, frame_refuses}
+use Rattle.lowering_counts.proofs.Loops.{all_at, all_more, all_seen, found_at}
+use Rattle.bb_driver.proofs.Frames.{globals_refuse, frame_refuses}
 use Rattle.bb_driver.proofs.source.lay_out.Goals as goal
 
 pub globals-requires : goal.globals-requires

@@ -1,5 +1,5 @@
 use Rattle.std.specs.Prelude.{◌≤◌, All, map, take}
-use Rattle.c_typed.specs.TypedViews.{function_of}
+use Rattle.typed_tree.specs.TypedViews.{function_of}
 use Rattle.block_layout.specs.Answers.{frame_bytes, most_frame_bytes}
 use Rattle.bb_driver.proofs.source.lay_out.Given as goal
 

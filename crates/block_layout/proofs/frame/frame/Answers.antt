@@ -1,6 +1,6 @@
 use Rattle.std.proofs.Common.{◌≡◌, ap, ◌∙◌, arith}
 use Rattle.std.specs.Prelude.{map}
-use Rattle.c_typed.specs.TypedViews.{local_of, function_of}
+use Rattle.typed_tree.specs.TypedViews.{local_of, function_of}
 use Rattle.size_table.specs.declared.memory_map.TheConstants.{SLOT_EXPONENT}
 use Rattle.block_layout.specs.Layout.{declining, placed_from, total_of, alignment_of}
 use Rattle.block_layout.specs.Objects.{block_items, block_items_from}

@@ -1,5 +1,5 @@
 use Rattle.std.proofs.Common.{◌≡◌, ◌++◌, drop, map}
-use Rattle.c_typed.specs.TypedViews.{local_of}
+use Rattle.typed_tree.specs.TypedViews.{local_of}
 use Rattle.block_layout.specs.Objects.{block_items_from}
 use Rattle.block_layout.specs.Views.{item_of}
 use Rattle.block_layout.proofs.frame.objects.Given as goal

@@ -1,6 +1,6 @@
 use Rattle.std.proofs.Common.{◌≡◌, ap, ◌∙◌, arith, length}
 use Rattle.std.specs.Prelude.{map}
-use Rattle.c_typed.specs.TypedViews.{global_of, program_of}
+use Rattle.typed_tree.specs.TypedViews.{global_of, program_of}
 use Rattle.std.proofs.lemmas.List.{length-map}
 use Rattle.size_table.specs.declared.memory_map.TheConstants.{SLOT_EXPONENT, GLOBALS_START}
 use Rattle.block_layout.specs.Layout.{declining, placed_from, layout, total_of}

@@ -1,6 +1,6 @@
 use Rattle.std.proofs.Common.{add-one, refl}
 use Rattle.std.proofs.lemmas.Result.{err_from_is_err_and}
-use Rattle.c_parser.proofs.CodeSteps.{called, call_failed, took, take_failed, gave}
+use Rattle.c_parser_expressions.proofs.CodeSteps.{called, call_failed, took, take_failed, gave}
 use Rattle.c_parser.proofs.array.array.Goals as goal
 
 pub returns-in_err-at : goal.returns-in_err-at

@@ -1,10 +1,10 @@
 use Rattle.std.proofs.Common.{ap}
 use Rattle.std.proofs.lemmas.Result.{err_from_is_err_and}
-use Rattle.c_parser.specs.Tests.{is_open_bracket}
-use Rattle.c_parser.proofs.CodeSteps.{saw_yes, saw_no}
-use Rattle.c_parser.proofs.Choices.{no_open_bracket}
-use Rattle.c_parser.proofs.Fewer.{shorter_by, array_moves}
-use Rattle.c_parser.proofs.Lists.{collected, repeat_more, repeat_failed, repeat_end}
+use Rattle.c_parser_rules.specs.Tests.{is_open_bracket}
+use Rattle.c_parser_expressions.proofs.CodeSteps.{saw_yes, saw_no}
+use Rattle.c_parser_expressions.proofs.Choices.{no_open_bracket}
+use Rattle.c_parser_expressions.proofs.Fewer.{shorter_by, array_moves}
+use Rattle.c_parser_expressions.proofs.Lists.{collected, repeat_more, repeat_failed, repeat_end}
 use Rattle.c_parser.proofs.array.arrays.Goals as goal
 
 pub arrays-init : goal.arrays-init

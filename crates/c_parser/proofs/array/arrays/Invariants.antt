@@ -1,13 +1,13 @@
 use Rattle.std.proofs.Common.{length, Vec, Global, Result, List}
 use Rattle.std.specs.Prelude.{map}
 use Rattle.c_words.specs.Tokens.{Placed}
-use Rattle.c_tree.specs.SyntaxViews.{array_tree}
-use Rattle.c_parser.specs.declared.cursor.Stop.{Stop}
-use Rattle.c_parser.specs.Programs.{Sort, Rule}
-use Rattle.c_parser.specs.Tests.{is_open_bracket}
-use Rattle.c_parser.specs.Bodies.{body}
-use Rattle.c_parser.specs.Reads.{Reads, GoesOn}
-use Rattle.c_tree.specs.declared.syntax.declarators.Array.{Array}
+use Rattle.syntax_tree.specs.SyntaxViews.{array_tree}
+use Rattle.c_parser_expressions.specs.declared.cursor.Stop.{Stop}
+use Rattle.c_parser_rules.specs.Programs.{Sort, Rule}
+use Rattle.c_parser_rules.specs.Tests.{is_open_bracket}
+use Rattle.c_parser_rules.specs.Bodies.{body}
+use Rattle.c_parser_expressions.specs.Reads.{Reads, GoesOn}
+use Rattle.syntax_tree.specs.declared.syntax.declarators.Array.{Array}
 use Rattle.c_parser.proofs.array.arrays.Given as goal
 
 abbrev pub invariant-arrays : goal.invariant-arrays

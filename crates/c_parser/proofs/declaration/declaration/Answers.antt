@@ -1,9 +1,9 @@
 use Rattle.std.proofs.Common.{refl, ap}
 use Rattle.std.proofs.lemmas.Result.{err_from_is_err_and}
-use Rattle.c_parser.specs.Tests.{is_semicolon}
-use Rattle.c_parser.proofs.CodeSteps.{called, call_failed, took, take_failed, gave, when_yes, when_no, saw_yes, saw_no}
-use Rattle.c_parser.proofs.Lists.{collected, goes_failed}
-use Rattle.c_parser.proofs.Further.{no_semicolon}
+use Rattle.c_parser_rules.specs.Tests.{is_semicolon}
+use Rattle.c_parser_expressions.proofs.CodeSteps.{called, call_failed, took, take_failed, gave, when_yes, when_no, saw_yes, saw_no}
+use Rattle.c_parser_expressions.proofs.Lists.{collected, goes_failed}
+use Rattle.c_parser_expressions.proofs.Further.{no_semicolon}
 use Rattle.c_parser.proofs.declaration.declaration.Goals as goal
 
 pub returns-in_err-specifier : goal.returns-in_err-specifier

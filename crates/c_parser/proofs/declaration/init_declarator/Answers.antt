@@ -1,5 +1,5 @@
 use Rattle.std.proofs.lemmas.Result.{err_from_is_err_and}
-use Rattle.c_parser.proofs.CodeSteps.{called, call_failed, tail}
+use Rattle.c_parser_expressions.proofs.CodeSteps.{called, call_failed, tail}
 use Rattle.c_parser.proofs.declaration.init_declarator.Goals as goal
 
 pub returns-in_err-declarator : goal.returns-in_err-declarator

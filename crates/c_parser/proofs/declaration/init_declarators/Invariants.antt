@@ -1,12 +1,12 @@
 use Rattle.std.proofs.Common.{length, Vec, Global, Result, List}
 use Rattle.std.specs.Prelude.{map}
 use Rattle.c_words.specs.Tokens.{Placed}
-use Rattle.c_tree.specs.SyntaxViews.{init_declarator_tree}
-use Rattle.c_parser.specs.declared.cursor.Stop.{Stop}
-use Rattle.c_parser.specs.Programs.{Sort, Rule}
-use Rattle.c_parser.specs.Bodies.{body}
-use Rattle.c_parser.specs.Reads.{GoesOn}
-use Rattle.c_tree.specs.declared.syntax.declarations.InitDeclarator.{InitDeclarator}
+use Rattle.syntax_tree.specs.SyntaxViews.{init_declarator_tree}
+use Rattle.c_parser_expressions.specs.declared.cursor.Stop.{Stop}
+use Rattle.c_parser_rules.specs.Programs.{Sort, Rule}
+use Rattle.c_parser_rules.specs.Bodies.{body}
+use Rattle.c_parser_expressions.specs.Reads.{GoesOn}
+use Rattle.syntax_tree.specs.declared.syntax.declarations.InitDeclarator.{InitDeclarator}
 use Rattle.c_parser.proofs.declaration.init_declarators.Given as goal
 
 abbrev pub invariant-declarators : goal.invariant-declarators

@@ -1,8 +1,8 @@
 use Rattle.std.proofs.Common.{refl, ap}
 use Rattle.std.proofs.lemmas.Result.{err_from_is_err_and}
-use Rattle.c_parser.specs.Tests.{is_equal}
-use Rattle.c_parser.proofs.CodeSteps.{called, call_failed, took, take_failed, gave, when_yes, when_no, saw_yes, saw_no}
-use Rattle.c_parser.proofs.Further.{no_equal}
+use Rattle.c_parser_rules.specs.Tests.{is_equal}
+use Rattle.c_parser_expressions.proofs.CodeSteps.{called, call_failed, took, take_failed, gave, when_yes, when_no, saw_yes, saw_no}
+use Rattle.c_parser_expressions.proofs.Further.{no_equal}
 use Rattle.c_parser.proofs.declaration.init_rest.Goals as goal
 
 pub returns-then-not-sees : goal.returns-then-not-sees

@@ -1,9 +1,9 @@
 use Rattle.std.proofs.Common.{add-one, sym, ◌∙◌, ◌+◌}
 use Rattle.std.proofs.lemmas.Result.{err_from_is_err_and}
-use Rattle.c_parser.specs.Bodies.{declarator_by}
-use Rattle.c_parser.proofs.CodeSteps.{called, call_failed, took, take_failed, gave, looked, seen_as, refused, took_next, saw_yes, saw_no}
-use Rattle.c_parser.proofs.Next.{name_is}
-use Rattle.c_parser.proofs.Further.{no_declared_name}
+use Rattle.c_parser_rules.specs.Bodies.{declarator_by}
+use Rattle.c_parser_expressions.proofs.CodeSteps.{called, call_failed, took, take_failed, gave, looked, seen_as, refused, took_next, saw_yes, saw_no}
+use Rattle.c_parser_expressions.proofs.Next.{name_is}
+use Rattle.c_parser_expressions.proofs.Further.{no_declared_name}
 use Rattle.c_parser.proofs.declarator.+declarator.Goals as goal
 
 pub declarator-returns-in_err-stars : goal.declarator-returns-in_err-stars

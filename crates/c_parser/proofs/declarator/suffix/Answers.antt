@@ -1,8 +1,8 @@
 use Rattle.std.proofs.Common.{add-one, refl, ap}
 use Rattle.std.proofs.lemmas.Result.{err_from_is_err_and}
-use Rattle.c_parser.specs.Tests.{is_open_bracket}
-use Rattle.c_parser.proofs.CodeSteps.{called, call_failed, took, take_failed, gave, when_yes, when_no, saw_yes, saw_no}
-use Rattle.c_parser.proofs.Choices.{no_open_bracket}
+use Rattle.c_parser_rules.specs.Tests.{is_open_bracket}
+use Rattle.c_parser_expressions.proofs.CodeSteps.{called, call_failed, took, take_failed, gave, when_yes, when_no, saw_yes, saw_no}
+use Rattle.c_parser_expressions.proofs.Choices.{no_open_bracket}
 use Rattle.c_parser.proofs.declarator.suffix.Goals as goal
 
 pub returns-in_err-array : goal.returns-in_err-array

@@ -1,8 +1,8 @@
 use Rattle.std.proofs.Common.{sym, ◌∙◌}
 use Rattle.std.proofs.lemmas.Result.{err_from_is_err_and}
-use Rattle.c_parser.specs.Tests.{begins_suffix}
-use Rattle.c_parser.proofs.Fewer.{shorter_by, suffix_moves}
-use Rattle.c_parser.proofs.Lists.{collected, repeat_more, repeat_failed, repeat_end}
+use Rattle.c_parser_rules.specs.Tests.{begins_suffix}
+use Rattle.c_parser_expressions.proofs.Fewer.{shorter_by, suffix_moves}
+use Rattle.c_parser_expressions.proofs.Lists.{collected, repeat_more, repeat_failed, repeat_end}
 use Rattle.c_parser.proofs.declarator.suffixes.Goals as goal
 
 pub suffixes-init : goal.suffixes-init

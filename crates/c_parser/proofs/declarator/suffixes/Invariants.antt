@@ -1,13 +1,13 @@
 use Rattle.std.proofs.Common.{length, Vec, Global, Result, List}
 use Rattle.std.specs.Prelude.{map}
 use Rattle.c_words.specs.Tokens.{Placed}
-use Rattle.c_tree.specs.SyntaxViews.{suffix_tree}
-use Rattle.c_parser.specs.declared.cursor.Stop.{Stop}
-use Rattle.c_parser.specs.Programs.{Sort, Rule}
-use Rattle.c_parser.specs.Tests.{begins_suffix}
-use Rattle.c_parser.specs.Bodies.{body}
-use Rattle.c_parser.specs.Reads.{Reads, GoesOn}
-use Rattle.c_tree.specs.declared.syntax.declarators.Suffix.{Suffix}
+use Rattle.syntax_tree.specs.SyntaxViews.{suffix_tree}
+use Rattle.c_parser_expressions.specs.declared.cursor.Stop.{Stop}
+use Rattle.c_parser_rules.specs.Programs.{Sort, Rule}
+use Rattle.c_parser_rules.specs.Tests.{begins_suffix}
+use Rattle.c_parser_rules.specs.Bodies.{body}
+use Rattle.c_parser_expressions.specs.Reads.{Reads, GoesOn}
+use Rattle.syntax_tree.specs.declared.syntax.declarators.Suffix.{Suffix}
 use Rattle.c_parser.proofs.declarator.suffixes.Given as goal
 
 abbrev pub invariant-suffixes : goal.invariant-suffixes

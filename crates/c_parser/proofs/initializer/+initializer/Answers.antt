@@ -1,13 +1,13 @@
 use Rattle.std.proofs.Common.{add-one, ap, ◌∙◌}
 use Rattle.std.proofs.lemmas.Result.{err_from_is_err_and}
-use Rattle.c_tree.specs.SyntaxViews.{expression_tree}
-use Rattle.c_tree.specs.Syntax.{InitializerTree}
-use Rattle.c_parser.specs.Tests.{is_comma, is_open_brace, is_close_brace}
-use Rattle.c_parser.proofs.CodeSteps.{called, call_failed, took, take_failed, gave, when_yes, when_no, saw_yes, saw_no}
-use Rattle.c_parser.proofs.Choices.{no_comma}
-use Rattle.c_parser.proofs.Fewer.{comma_shorter}
-use Rattle.c_parser.proofs.Lists.{goes_stop, collected, parts_more, parts_comma, parts_end}
-use Rattle.c_parser.proofs.Further.{no_open_brace, no_close_brace}
+use Rattle.syntax_tree.specs.SyntaxViews.{expression_tree}
+use Rattle.syntax_tree.specs.Syntax.{InitializerTree}
+use Rattle.c_parser_rules.specs.Tests.{is_comma, is_open_brace, is_close_brace}
+use Rattle.c_parser_expressions.proofs.CodeSteps.{called, call_failed, took, take_failed, gave, when_yes, when_no, saw_yes, saw_no}
+use Rattle.c_parser_expressions.proofs.Choices.{no_comma}
+use Rattle.c_parser_expressions.proofs.Fewer.{comma_shorter}
+use Rattle.c_parser_expressions.proofs.Lists.{goes_stop, collected, parts_more, parts_comma, parts_end}
+use Rattle.c_parser_expressions.proofs.Further.{no_open_brace, no_close_brace}
 use Rattle.c_parser.proofs.initializer.+initializer.Goals as goal
 
 pub initializer-returns-in_err-value : goal.initializer-returns-in_err-value

@@ -1,11 +1,11 @@
 use Rattle.std.proofs.Common.{length, ◌-◌, ◌+◌, ◌*◌, Vec, Global, Result, List}
 use Rattle.c_words.specs.Tokens.{Placed}
-use Rattle.c_tree.specs.SyntaxViews.{initializer_trees}
-use Rattle.c_parser.specs.declared.cursor.Stop.{Stop}
-use Rattle.c_parser.specs.Programs.{Sort, Rule}
-use Rattle.c_parser.specs.Bodies.{body}
-use Rattle.c_parser.specs.Reads.{Reads, GoesOn}
-use Rattle.c_tree.specs.declared.syntax.declarations.Initializer.{Initializer}
+use Rattle.syntax_tree.specs.SyntaxViews.{initializer_trees}
+use Rattle.c_parser_expressions.specs.declared.cursor.Stop.{Stop}
+use Rattle.c_parser_rules.specs.Programs.{Sort, Rule}
+use Rattle.c_parser_rules.specs.Bodies.{body}
+use Rattle.c_parser_expressions.specs.Reads.{Reads, GoesOn}
+use Rattle.syntax_tree.specs.declared.syntax.declarations.Initializer.{Initializer}
 use Rattle.c_parser.proofs.initializer.+initializer.Given as goal
 
 abbrev pub decreases-initializer : goal.decreases-initializer

@@ -1,9 +1,9 @@
 use Rattle.std.proofs.Common.{add-one, sym, ◌∙◌, ◌+◌}
 use Rattle.std.proofs.lemmas.Result.{err_from_is_err_and}
-use Rattle.c_parser.specs.Bodies.{parameter_declarator_by}
-use Rattle.c_parser.proofs.CodeSteps.{called, call_failed, took, take_failed, gave, looked, seen_as, refused, took_next, saw_yes, saw_no}
-use Rattle.c_parser.proofs.Next.{name_is}
-use Rattle.c_parser.proofs.Further.{no_parameter_name}
+use Rattle.c_parser_rules.specs.Bodies.{parameter_declarator_by}
+use Rattle.c_parser_expressions.proofs.CodeSteps.{called, call_failed, took, take_failed, gave, looked, seen_as, refused, took_next, saw_yes, saw_no}
+use Rattle.c_parser_expressions.proofs.Next.{name_is}
+use Rattle.c_parser_expressions.proofs.Further.{no_parameter_name}
 use Rattle.c_parser.proofs.parameter.+parameter.Goals as goal
 
 pub parameter_declarator-returns-in_err-stars : goal.parameter_declarator-returns-in_err-stars

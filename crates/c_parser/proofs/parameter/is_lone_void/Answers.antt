@@ -1,7 +1,7 @@
 use Rattle.std.proofs.Common.{arith, sym, ap, ◌∙◌, ◌&&◌}
-use Rattle.c_tree.specs.SyntaxViews.{parameter_declarator_tree}
-use Rattle.c_parser.specs.Bodies.{is_no_declarator}
-use Rattle.c_parser.proofs.Further.{not_lone, lone}
+use Rattle.syntax_tree.specs.SyntaxViews.{parameter_declarator_tree}
+use Rattle.c_parser_rules.specs.Bodies.{is_no_declarator}
+use Rattle.c_parser_expressions.proofs.Further.{not_lone, lone}
 use Rattle.c_parser.proofs.parameter.is_lone_void.Goals as goal
 
 pub returns-then-parameters-ne1 : goal.returns-then-parameters-ne1

@@ -1,6 +1,6 @@
 use Rattle.std.proofs.Common.{length, ◌≤◌, ◌<◌}
-use Rattle.c_tree.proofs.SyntaxViews.{declaration_views}
-use Rattle.c_parser.proofs.Further.{no_arrays, some_arrays}
+use Rattle.syntax_tree.proofs.SyntaxViews.{declaration_views}
+use Rattle.c_parser_expressions.proofs.Further.{no_arrays, some_arrays}
 use Rattle.c_parser.proofs.parameter.is_no_declarator.Goals as goal
 
 pub returns-in-None : goal.returns-in-None

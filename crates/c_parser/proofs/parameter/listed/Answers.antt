@@ -1,10 +1,10 @@
 use Rattle.std.proofs.Common.{ap}
 use Rattle.std.proofs.lemmas.Result.{err_from_is_err_and}
-use Rattle.c_parser.specs.Tests.{is_comma}
-use Rattle.c_parser.proofs.CodeSteps.{saw_yes, saw_no}
-use Rattle.c_parser.proofs.Choices.{no_comma}
-use Rattle.c_parser.proofs.Fewer.{comma_shorter}
-use Rattle.c_parser.proofs.Lists.{collected, commas_more, commas_end, commas_failed}
+use Rattle.c_parser_rules.specs.Tests.{is_comma}
+use Rattle.c_parser_expressions.proofs.CodeSteps.{saw_yes, saw_no}
+use Rattle.c_parser_expressions.proofs.Choices.{no_comma}
+use Rattle.c_parser_expressions.proofs.Fewer.{comma_shorter}
+use Rattle.c_parser_expressions.proofs.Lists.{collected, commas_more, commas_end, commas_failed}
 use Rattle.c_parser.proofs.parameter.listed.Goals as goal
 
 pub parameters-init : goal.parameters-init

@@ -1,10 +1,10 @@
 use Rattle.std.proofs.Common.{refl, sym, ◌∙◌, Some, true, false, length, slice_get, ◌≡◌, ◌≤◌}
 use Rattle.std.specs.Prelude.{map}
 use Rattle.std.proofs.lemmas.Result.{err_from_is_err_and}
-use Rattle.c_tree.specs.SyntaxViews.{parameter_tree}
-use Rattle.c_parser.specs.Bodies.{is_lone_void}
-use Rattle.c_parser.proofs.CodeSteps.{called, call_failed, gave, refused}
-use Rattle.c_parser.proofs.Further.{chosen_none, chosen_void, chosen_list}
+use Rattle.syntax_tree.specs.SyntaxViews.{parameter_tree}
+use Rattle.c_parser_rules.specs.Bodies.{is_lone_void}
+use Rattle.c_parser_expressions.proofs.CodeSteps.{called, call_failed, gave, refused}
+use Rattle.c_parser_expressions.proofs.Further.{chosen_none, chosen_void, chosen_list}
 use Rattle.c_parser.proofs.parameter.parameters.Goals as goal
 
 pub returns-in_err-parameters : goal.returns-in_err-parameters

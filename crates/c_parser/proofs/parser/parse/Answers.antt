@@ -1,6 +1,6 @@
 use Rattle.c_lexer.specs.Text.{placed}
 use Rattle.c_lexer.specs.Views.{lexemes}
-use Rattle.c_tree.specs.GrammarRefusals.{Refusal}
+use Rattle.syntax_tree.specs.GrammarRefusals.{Refusal}
 use Rattle.c_parser.proofs.Stopping.{numbered, read_all, read_derived, refused_here, derived_not_refused}
 use Rattle.c_parser.proofs.parser.parse.Goals as goal
 

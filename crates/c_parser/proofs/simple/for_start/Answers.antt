@@ -1,7 +1,7 @@
 use Rattle.std.proofs.Common.{refl, sym, ◌∙◌}
 use Rattle.std.proofs.lemmas.Result.{err_from_is_err_and}
-use Rattle.c_parser.specs.Tests.{begins_specifier}
-use Rattle.c_parser.proofs.CodeSteps.{called, call_failed, took, take_failed, gave, when_yes, when_no}
+use Rattle.c_parser_rules.specs.Tests.{begins_specifier}
+use Rattle.c_parser_expressions.proofs.CodeSteps.{called, call_failed, took, take_failed, gave, when_yes, when_no}
 use Rattle.c_parser.proofs.simple.for_start.Goals as goal
 
 pub returns-in_err-declaration : goal.returns-in_err-declaration

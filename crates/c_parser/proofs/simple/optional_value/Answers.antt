@@ -1,9 +1,9 @@
 use Rattle.std.proofs.Common.{refl, ap, Some}
 use Rattle.std.proofs.lemmas.Result.{err_from_is_err_and}
-use Rattle.c_tree.specs.SyntaxViews.{expression_tree}
-use Rattle.c_parser.specs.Tests.{is_semicolon}
-use Rattle.c_parser.proofs.CodeSteps.{called, call_failed, gave, when_yes, when_no, saw_yes, saw_no}
-use Rattle.c_parser.proofs.Further.{no_semicolon}
+use Rattle.syntax_tree.specs.SyntaxViews.{expression_tree}
+use Rattle.c_parser_rules.specs.Tests.{is_semicolon}
+use Rattle.c_parser_expressions.proofs.CodeSteps.{called, call_failed, gave, when_yes, when_no, saw_yes, saw_no}
+use Rattle.c_parser_expressions.proofs.Further.{no_semicolon}
 use Rattle.c_parser.proofs.simple.optional_value.Goals as goal
 
 pub returns-then-sees : goal.returns-then-sees

@@ -1,8 +1,8 @@
 use Rattle.std.proofs.Common.{ap, false}
 use Rattle.std.proofs.lemmas.Result.{err_from_is_err_and}
-use Rattle.c_parser.specs.Bodies.{statement_by}
-use Rattle.c_parser.proofs.CodeSteps.{called, call_failed, took, take_failed, gave, looked, seen_as, took_next, saw_yes, saw_no}
-use Rattle.c_parser.proofs.Further.{no_jump}
+use Rattle.c_parser_rules.specs.Bodies.{statement_by}
+use Rattle.c_parser_expressions.proofs.CodeSteps.{called, call_failed, took, take_failed, gave, looked, seen_as, took_next, saw_yes, saw_no}
+use Rattle.c_parser_expressions.proofs.Further.{no_jump}
 use Rattle.c_parser.proofs.simple.simple.Goals as goal
 
 pub returns-then-sees : goal.returns-then-sees

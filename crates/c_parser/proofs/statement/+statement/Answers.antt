@@ -1,13 +1,13 @@
 use Rattle.std.proofs.Common.{add-one, sym, ap, ◌∙◌, arith, true, false}
 use Rattle.std.proofs.lemmas.Result.{err_from_is_err_and}
-use Rattle.c_tree.specs.SyntaxViews.{expression_tree, statement_tree}
-use Rattle.c_tree.specs.Syntax.{StatementTree}
-use Rattle.c_parser.specs.Tests.{is_close_brace, is_else, begins_specifier}
-use Rattle.c_parser.specs.Bodies.{statement_by}
-use Rattle.c_parser.proofs.CodeSteps.{called, call_failed, took, take_failed, gave, when_yes, when_no, seen_as, saw_yes, saw_no, failed_as, read_as}
-use Rattle.c_parser.proofs.Fewer.{mark_opened, shorter_by, item_moves}
-use Rattle.c_parser.proofs.Lists.{goes_stop, collected, items_more, items_end}
-use Rattle.c_parser.proofs.Further.{no_close_brace, no_else, not_compound, do_body, do_deep, do_nothing, opens_not, opens_yes}
+use Rattle.syntax_tree.specs.SyntaxViews.{expression_tree, statement_tree}
+use Rattle.syntax_tree.specs.Syntax.{StatementTree}
+use Rattle.c_parser_rules.specs.Tests.{is_close_brace, is_else, begins_specifier}
+use Rattle.c_parser_rules.specs.Bodies.{statement_by}
+use Rattle.c_parser_expressions.proofs.CodeSteps.{called, call_failed, took, take_failed, gave, when_yes, when_no, seen_as, saw_yes, saw_no, failed_as, read_as}
+use Rattle.c_parser_expressions.proofs.Fewer.{mark_opened, shorter_by, item_moves}
+use Rattle.c_parser_expressions.proofs.Lists.{goes_stop, collected, items_more, items_end}
+use Rattle.c_parser_expressions.proofs.Further.{no_close_brace, no_else, not_compound, do_body, do_deep, do_nothing, opens_not, opens_yes}
 use Rattle.c_parser.proofs.statement.+statement.Goals as goal
 
 pub statement-returns-in_err-block : goal.statement-returns-in_err-block

@@ -1,11 +1,11 @@
 use Rattle.std.proofs.Common.{length, ◌-◌, ◌+◌, ◌*◌, Vec, Global, Result, List}
 use Rattle.c_words.specs.Tokens.{Placed}
-use Rattle.c_tree.specs.SyntaxViews.{block_item_trees}
-use Rattle.c_parser.specs.declared.cursor.Stop.{Stop}
-use Rattle.c_parser.specs.Programs.{Sort, Rule}
-use Rattle.c_parser.specs.Bodies.{body}
-use Rattle.c_parser.specs.Reads.{Reads, GoesOn}
-use Rattle.c_tree.specs.declared.syntax.statements.BlockItem.{BlockItem}
+use Rattle.syntax_tree.specs.SyntaxViews.{block_item_trees}
+use Rattle.c_parser_expressions.specs.declared.cursor.Stop.{Stop}
+use Rattle.c_parser_rules.specs.Programs.{Sort, Rule}
+use Rattle.c_parser_rules.specs.Bodies.{body}
+use Rattle.c_parser_expressions.specs.Reads.{Reads, GoesOn}
+use Rattle.syntax_tree.specs.declared.syntax.statements.BlockItem.{BlockItem}
 use Rattle.c_parser.proofs.statement.+statement.Given as goal
 
 abbrev pub decreases-statement : goal.decreases-statement

@@ -1,9 +1,9 @@
 use Rattle.std.proofs.Common.{sym, ◌∙◌}
 use Rattle.std.proofs.lemmas.Result.{err_from_is_err_and}
-use Rattle.c_parser.specs.Tests.{is_some}
-use Rattle.c_parser.proofs.Fewer.{shorter_by, external_moves}
-use Rattle.c_parser.proofs.Lists.{repeat_more, repeat_failed, repeat_end}
-use Rattle.c_parser.proofs.Further.{none_left, not_at_end, ended}
+use Rattle.c_parser_rules.specs.Tests.{is_some}
+use Rattle.c_parser_expressions.proofs.Fewer.{shorter_by, external_moves}
+use Rattle.c_parser_expressions.proofs.Lists.{repeat_more, repeat_failed, repeat_end}
+use Rattle.c_parser_expressions.proofs.Further.{none_left, not_at_end, ended}
 use Rattle.c_parser.proofs.unit.externals.Goals as goal
 
 pub externals-init : goal.externals-init

@@ -1,11 +1,11 @@
 use Rattle.std.proofs.Common.{ap, ◌∙◌, [], ◌∷◌, ◌++◌}
 use Rattle.std.specs.Prelude.{map}
 use Rattle.std.proofs.lemmas.Result.{err_from_is_err_and}
-use Rattle.c_tree.specs.SyntaxViews.{init_declarator_tree}
-use Rattle.c_parser.specs.Tests.{is_comma}
-use Rattle.c_parser.proofs.CodeSteps.{took, take_failed, gave, when_yes, when_no, saw_yes, saw_no}
-use Rattle.c_parser.proofs.Choices.{no_comma}
-use Rattle.c_parser.proofs.Lists.{first_then}
+use Rattle.syntax_tree.specs.SyntaxViews.{init_declarator_tree}
+use Rattle.c_parser_rules.specs.Tests.{is_comma}
+use Rattle.c_parser_expressions.proofs.CodeSteps.{took, take_failed, gave, when_yes, when_no, saw_yes, saw_no}
+use Rattle.c_parser_expressions.proofs.Choices.{no_comma}
+use Rattle.c_parser_expressions.proofs.Lists.{first_then}
 use Rattle.c_parser.proofs.unit.further.Goals as goal
 
 pub returns-then-not-sees : goal.returns-then-not-sees

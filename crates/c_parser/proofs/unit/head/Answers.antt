@@ -1,8 +1,8 @@
 use Rattle.std.proofs.Common.{refl}
 use Rattle.std.proofs.lemmas.Result.{err_from_is_err_and}
-use Rattle.c_parser.specs.Bodies.{head_by}
-use Rattle.c_parser.proofs.CodeSteps.{called, call_failed, gave, looked, seen_as, took_next, saw_yes, saw_no}
-use Rattle.c_parser.proofs.Further.{no_struct}
+use Rattle.c_parser_rules.specs.Bodies.{head_by}
+use Rattle.c_parser_expressions.proofs.CodeSteps.{called, call_failed, gave, looked, seen_as, took_next, saw_yes, saw_no}
+use Rattle.c_parser_expressions.proofs.Further.{no_struct}
 use Rattle.c_parser.proofs.unit.head.Goals as goal
 
 pub returns-in_err-tag : goal.returns-in_err-tag

@@ -1,10 +1,10 @@
 use Rattle.std.proofs.Common.{ap}
 use Rattle.std.proofs.lemmas.Result.{err_from_is_err_and}
-use Rattle.c_parser.specs.Tests.{goes_on}
-use Rattle.c_parser.proofs.CodeSteps.{saw_yes, saw_no}
-use Rattle.c_parser.proofs.Fewer.{shorter_by, member_moves}
-use Rattle.c_parser.proofs.Lists.{repeat_more, repeat_failed, repeat_end}
-use Rattle.c_parser.proofs.Further.{no_end}
+use Rattle.c_parser_rules.specs.Tests.{goes_on}
+use Rattle.c_parser_expressions.proofs.CodeSteps.{saw_yes, saw_no}
+use Rattle.c_parser_expressions.proofs.Fewer.{shorter_by, member_moves}
+use Rattle.c_parser_expressions.proofs.Lists.{repeat_more, repeat_failed, repeat_end}
+use Rattle.c_parser_expressions.proofs.Further.{no_end}
 use Rattle.c_parser.proofs.unit.members.Goals as goal
 
 pub members-init : goal.members-init

@@ -1,13 +1,13 @@
 use Rattle.std.proofs.Common.{length, Vec, Global, Result, List}
 use Rattle.std.specs.Prelude.{map}
 use Rattle.c_words.specs.Tokens.{Placed}
-use Rattle.c_tree.specs.SyntaxViews.{member_declaration_tree}
-use Rattle.c_parser.specs.declared.cursor.Stop.{Stop}
-use Rattle.c_parser.specs.Programs.{Sort, Rule}
-use Rattle.c_parser.specs.Tests.{goes_on}
-use Rattle.c_parser.specs.Bodies.{body}
-use Rattle.c_parser.specs.Reads.{GoesOn}
-use Rattle.c_tree.specs.declared.syntax.declarations.MemberDeclaration.{MemberDeclaration}
+use Rattle.syntax_tree.specs.SyntaxViews.{member_declaration_tree}
+use Rattle.c_parser_expressions.specs.declared.cursor.Stop.{Stop}
+use Rattle.c_parser_rules.specs.Programs.{Sort, Rule}
+use Rattle.c_parser_rules.specs.Tests.{goes_on}
+use Rattle.c_parser_rules.specs.Bodies.{body}
+use Rattle.c_parser_expressions.specs.Reads.{GoesOn}
+use Rattle.syntax_tree.specs.declared.syntax.declarations.MemberDeclaration.{MemberDeclaration}
 use Rattle.c_parser.proofs.unit.members.Given as goal
 
 abbrev pub invariant-members : goal.invariant-members

@@ -1,12 +1,12 @@
 use Rattle.std.proofs.Common.{add-one, refl, ap, ◌∙◌, [], ◌∷◌, ◌++◌}
 use Rattle.std.proofs.lemmas.Result.{err_from_is_err_and}
 use Rattle.std.specs.Prelude.{map}
-use Rattle.c_tree.specs.Syntax.{HeadTree}
-use Rattle.c_tree.specs.SyntaxViews.{member_declaration_tree}
-use Rattle.c_parser.specs.Tests.{is_open_brace}
-use Rattle.c_parser.proofs.CodeSteps.{called, call_failed, took, take_failed, gave, when_yes, when_no, saw_yes, saw_no}
-use Rattle.c_parser.proofs.Lists.{goes_then, goes_failed}
-use Rattle.c_parser.proofs.Further.{no_open_brace}
+use Rattle.syntax_tree.specs.Syntax.{HeadTree}
+use Rattle.syntax_tree.specs.SyntaxViews.{member_declaration_tree}
+use Rattle.c_parser_rules.specs.Tests.{is_open_brace}
+use Rattle.c_parser_expressions.proofs.CodeSteps.{called, call_failed, took, take_failed, gave, when_yes, when_no, saw_yes, saw_no}
+use Rattle.c_parser_expressions.proofs.Lists.{goes_then, goes_failed}
+use Rattle.c_parser_expressions.proofs.Further.{no_open_brace}
 use Rattle.c_parser.proofs.unit.structure.Goals as goal
 
 pub returns-then-not-sees : goal.returns-then-not-sees

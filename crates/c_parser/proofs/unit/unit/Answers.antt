@@ -1,11 +1,11 @@
 use Rattle.std.proofs.Common.{refl, sym, ap, ◌∙◌, [], ◌∷◌, ◌++◌}
 use Rattle.std.proofs.lemmas.Result.{err_from_is_err_and}
-use Rattle.c_parser.specs.Programs.{Rule, Program}
-use Rattle.c_parser.specs.Tests.{is_some}
-use Rattle.c_parser.specs.Bodies.{unit_by}
-use Rattle.c_parser.proofs.CodeSteps.{called, call_failed, gave, looked}
-use Rattle.c_parser.proofs.Lists.{goes_then, goes_failed}
-use Rattle.c_parser.proofs.Further.{read_ahead, none_first, at_end}
+use Rattle.c_parser_rules.specs.Programs.{Rule, Program}
+use Rattle.c_parser_rules.specs.Tests.{is_some}
+use Rattle.c_parser_rules.specs.Bodies.{unit_by}
+use Rattle.c_parser_expressions.proofs.CodeSteps.{called, call_failed, gave, looked}
+use Rattle.c_parser_expressions.proofs.Lists.{goes_then, goes_failed}
+use Rattle.c_parser_expressions.proofs.Further.{read_ahead, none_first, at_end}
 use Rattle.c_parser.proofs.unit.unit.Goals as goal
 
 pub returns-in-None-clause-reads : goal.returns-in-None-clause-reads

@@ -1,7 +1,7 @@
 use Rattle.std.proofs.Common.{◌≡◌, ◌+◌, ◌*◌}
 use Rattle.std.specs.Prelude.{drop}
 use Rattle.flat_code.specs.CodeViews.{step_of, steps_of}
-use Rattle.flat_verify.specs.Items.{step_places, steps_places}
+use Rattle.flat_discipline.specs.Items.{step_places, steps_places}
 use Rattle.flat_verify.proofs.demands.+places.Given as goal
 
 abbrev pub decreases-places_of : goal.decreases-places_of

@@ -1,6 +1,6 @@
 use Rattle.std.proofs.Common.{◌≡◌, ◌++◌}
 use Rattle.std.specs.Prelude.{drop}
-use Rattle.flat_verify.specs.Breaks.{shared}
+use Rattle.flat_discipline.specs.Breaks.{shared}
 use Rattle.flat_verify.proofs.demands.shared_values.Given as goal
 
 abbrev pub invariant-loop-v : goal.invariant-loop-v

@@ -4,15 +4,15 @@ use Rattle.flat_code.specs.CodeViews.{step_of, steps_of}
 use Rattle.flat_code.specs.Recognized.{sequence_at}
 use Rattle.flat_code.specs.SequenceViews.{sequence_of, sequence_in}
 use Rattle.flat_code.proofs.CodeViewed.{view-If, view-Block, view-Loop, view-Inner}
-use Rattle.flat_verify.specs.Items.{Item, Items, item_of, items_from, places, first_place}
-use Rattle.flat_verify.specs.Facts.{Here, here_after}
+use Rattle.flat_discipline.specs.Items.{Item, Items, item_of, items_from, places, first_place}
+use Rattle.flat_discipline.specs.Facts.{Here, here_after}
 use Rattle.flat_verify.specs.Effects.{Effect}
 use Rattle.flat_verify.specs.Links.{Link, links, links_all}
 use Rattle.flat_verify.specs.Scenes.{setting_of}
 use Rattle.flat_verify.specs.Told.{here_of}
 use Rattle.flat_verify.specs.Views.{link_of}
 use Rattle.flat_verify.proofs.Demanded.{ways_made, entered, block_made, loop_made, inner_made}
-use Rattle.flat_verify.proofs.Walked.{one_in, item_size, whole_rest, both_same}
+use Rattle.flat_discipline.proofs.Walked.{one_in, item_size, whole_rest, both_same}
 use Rattle.flat_verify.proofs.edges.+items.Goals as goal
 
 pub push_item-returns-in_ok-push_items-in-If-2 : goal.push_item-returns-in_ok-push_items-in-If-2

@@ -1,5 +1,5 @@
 use Rattle.std.proofs.Common.{arith, sym}
-use Rattle.flat_verify.proofs.Walked.{first_left, none_left}
+use Rattle.flat_discipline.proofs.Walked.{first_left, none_left}
 use Rattle.flat_verify.proofs.edges.entry_of.Goals as goal
 
 pub returns-then-count-gt0 : goal.returns-then-count-gt0

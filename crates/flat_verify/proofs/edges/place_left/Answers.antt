@@ -1,6 +1,6 @@
 use Rattle.std.proofs.Common.{arith, ◌+◌, sym, length-drop}
 use Rattle.std.specs.Prelude.{drop}
-use Rattle.flat_verify.proofs.Walked.{first_left, none_left}
+use Rattle.flat_discipline.proofs.Walked.{first_left, none_left}
 use Rattle.flat_verify.proofs.edges.place_left.Goals as goal
 
 pub returns-then-skip-left : goal.returns-then-skip-left

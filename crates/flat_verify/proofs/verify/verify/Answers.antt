@@ -1,7 +1,7 @@
 use Rattle.std.proofs.Common.{map, subst}
 use Rattle.std.specs.Option.{option_map}
 use Rattle.flat_code.specs.CodeViews.{code_of}
-use Rattle.flat_verify.specs.Discipline.{BreaksAt, IsDisciplined, FirstBreak}
+use Rattle.flat_discipline.specs.Discipline.{BreaksAt, IsDisciplined, FirstBreak}
 use Rattle.flat_verify.specs.Places.{place_of}
 use Rattle.flat_verify.specs.Views.{block_of, blocks_of}
 use Rattle.flat_verify.proofs.verify.verify.Goals as goal

@@ -3,13 +3,13 @@ use Rattle.std.specs.Prelude.{Some, None, nat_lt, map}
 use Rattle.flat_code.specs.CodeViews.{step_of, steps_of}
 use Rattle.flat_code.specs.Recognized.{sequence_at}
 use Rattle.flat_code.specs.SequenceViews.{sequence_of, sequence_in}
-use Rattle.flat_verify.specs.Items.{Item, Items, places}
+use Rattle.flat_discipline.specs.Items.{Item, Items, places}
 use Rattle.flat_verify.specs.Links.{demand, demands, demands_all}
 use Rattle.flat_verify.specs.Scenes.{setting_of}
 use Rattle.flat_verify.specs.Views.{fact_of}
 use Rattle.flat_code.proofs.CodeViewed.{view-If}
 use Rattle.flat_verify.proofs.Demanded.{choice_made}
-use Rattle.flat_verify.proofs.Walked.{one_in, item_size, whole_rest}
+use Rattle.flat_discipline.proofs.Walked.{one_in, item_size, whole_rest}
 use Rattle.flat_verify.proofs.wanted.+items.Goals as goal
 
 pub push_items-loop-i-preserved-in-Some : goal.push_items-loop-i-preserved-in-Some

@@ -1,7 +1,7 @@
 use Rattle.std.proofs.Common.{◌≡◌, ◌+◌, ◌*◌, ◌++◌}
 use Rattle.std.specs.Prelude.{map, drop}
 use Rattle.flat_code.specs.CodeViews.{step_of, steps_of}
-use Rattle.flat_verify.specs.Items.{items_from, items_of, step_places, steps_places}
+use Rattle.flat_discipline.specs.Items.{items_from, items_of, step_places, steps_places}
 use Rattle.flat_verify.specs.Links.{demands_all}
 use Rattle.flat_verify.specs.Scenes.{setting_of}
 use Rattle.flat_verify.specs.Views.{demand_of}

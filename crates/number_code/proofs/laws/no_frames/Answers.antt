@@ -1,4 +1,4 @@
-use Rattle.lowering.specs.Lower.{lowered}
+use Rattle.lowering_code.specs.Lower.{lowered}
 use Rattle.number_code.proofs.OfNumbers.{has_no_objects}
 use Rattle.number_code.proofs.CodeNumbers.{code_numbers}
 use Rattle.number_code.proofs.laws.no_frames.Goals as goal

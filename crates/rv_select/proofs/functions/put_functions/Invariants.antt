@@ -1,6 +1,6 @@
 use Rattle.std.proofs.Common.{◌≡◌, ◌++◌, map, drop}
 use Rattle.flat_code.specs.CodeViews.{function_of}
-use Rattle.rv_select.specs.Selection.{functions_parts}
+use Rattle.rv_selected.specs.Selection.{functions_parts}
 use Rattle.rv_select.proofs.functions.put_functions.Given as goal
 
 abbrev pub invariant-loop-function : goal.invariant-loop-function

@@ -1,6 +1,6 @@
 use Rattle.std.proofs.Common.{◌≡◌, ◌-◌, ◌++◌}
-use Rattle.rv_select.specs.Steps.{plains}
-use Rattle.rv_select.specs.Selection as selection
+use Rattle.rv_selected.specs.Steps.{plains}
+use Rattle.rv_selected.specs.Selection as selection
 use Rattle.rv_select.proofs.functions.put_stores.Given as goal
 
 abbrev pub invariant-loop-v : goal.invariant-loop-v

@@ -1,8 +1,8 @@
 use Rattle.std.proofs.Common.{◌+◌, ◌++◌}
 use Rattle.std.specs.Prelude.{drop}
 use Rattle.flat_code.specs.CodeViews.{steps_of}
-use Rattle.flat_verify.specs.Items.{items_from}
-use Rattle.rv_select.specs.Selection.{items_labels, items_parts}
+use Rattle.flat_discipline.specs.Items.{items_from}
+use Rattle.rv_selected.specs.Selection.{items_labels, items_parts}
 use Rattle.rv_select.proofs.Emitted.{Left}
 use Rattle.rv_select.proofs.items.+items.Given as goal
 

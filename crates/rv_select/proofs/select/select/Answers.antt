@@ -2,7 +2,7 @@ use Rattle.std.proofs.Common.{◌∙◌, sym, subst}
 use Rattle.flat_code.specs.CodeViews.{code_of}
 use Rattle.flat_verify.specs.Views.{blocks_of}
 use Rattle.rv_asm.specs.Parts.{AreParts}
-use Rattle.rv_select.specs.Shape.{AreShaped}
+use Rattle.rv_selected.specs.Shape.{AreShaped}
 use Rattle.rv_select.proofs.select.select.Goals as goal
 
 pub returns-clause-resolvable : goal.returns-clause-resolvable

@@ -1,4 +1,4 @@
-use Rattle.select_runs.proofs.Calm.{calm_is_in_reach}
+use Rattle.select_scope.proofs.Calm.{calm_is_in_reach}
 use Rattle.select_runs.proofs.laws.calm_is_in_reach.Goals as goal
 
 pub returns : goal.returns

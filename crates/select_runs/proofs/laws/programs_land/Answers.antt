@@ -1,4 +1,4 @@
-use Rattle.select_runs.proofs.Agree.{Laws}
+use Rattle.select_scope.proofs.Agree.{Laws}
 use Rattle.select_runs.proofs.Whole as whole
 use Rattle.select_runs.proofs.laws.programs_land.Goals as goal
 

@@ -1,4 +1,4 @@
-use Rattle.select_runs.proofs.Images.{selection_runs}
+use Rattle.select_scope.proofs.Images.{selection_runs}
 use Rattle.select_runs.proofs.laws.selection_runs.Goals as goal
 
 pub returns : goal.returns

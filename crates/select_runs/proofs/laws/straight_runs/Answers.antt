@@ -1,4 +1,4 @@
-use Rattle.select_runs.proofs.Straight.{straight}
+use Rattle.select_straight.proofs.Straight.{straight}
 use Rattle.select_runs.proofs.laws.straight_runs.Goals as goal
 
 pub returns : goal.returns

@@ -1,5 +1,0 @@
-use Rattle.bounds_instr.proofs.Light.{program_light}
-use Rattle.bounds_instr.proofs.laws.instrumented_is_light.Goals as goal
-
-pub returns : goal.returns
-returns c = λ g p formed built. program_light c.plain_items_are_read.ensures g p formed built

@@ -1,0 +1,11 @@
+pub mod Words
+pub mod Follow
+pub mod Meets
+pub mod Temporaries
+pub mod Orders
+pub mod Accesses
+pub mod Moves
+pub mod Heap
+pub mod Steps
+pub mod Frames
+pub mod Calls

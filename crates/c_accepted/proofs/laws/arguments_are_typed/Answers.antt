@@ -1,5 +1,0 @@
-use Rattle.c_accepted.proofs.Same.{arguments_are_typed}
-use Rattle.c_accepted.proofs.laws.arguments_are_typed.Goals as goal
-
-pub returns : goal.returns
-returns c = arguments_are_typed

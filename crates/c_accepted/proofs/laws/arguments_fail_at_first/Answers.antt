@@ -1,5 +1,0 @@
-use Rattle.c_accepted.proofs.Refused.{arguments_fail_at_first}
-use Rattle.c_accepted.proofs.laws.arguments_fail_at_first.Goals as goal
-
-pub returns : goal.returns
-returns c = arguments_fail_at_first

@@ -1,5 +1,0 @@
-use Rattle.c_accepted.proofs.Same.{externals_are_typed}
-use Rattle.c_accepted.proofs.laws.externals_are_typed.Goals as goal
-
-pub returns : goal.returns
-returns c = externals_are_typed

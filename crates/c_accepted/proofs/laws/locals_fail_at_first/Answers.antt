@@ -1,5 +1,0 @@
-use Rattle.c_accepted.proofs.Refused.{locals_fail_at_first}
-use Rattle.c_accepted.proofs.laws.locals_fail_at_first.Goals as goal
-
-pub returns : goal.returns
-returns c = locals_fail_at_first

@@ -1,5 +1,0 @@
-use Rattle.c_accepted.proofs.Same.{type_names_are_typed}
-use Rattle.c_accepted.proofs.laws.type_names_are_typed.Goals as goal
-
-pub returns : goal.returns
-returns c = type_names_are_typed

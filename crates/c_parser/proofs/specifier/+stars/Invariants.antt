@@ -1,5 +1,0 @@
-use Rattle.std.proofs.Common.{◌-◌}
-use Rattle.c_parser.proofs.specifier.+stars.Given as goal
-
-abbrev pub decreases-stars : goal.decreases-stars
-decreases-stars l = 200 - l.depth

@@ -1,0 +1,9 @@
+pub mod CodeSteps
+pub mod ListSteps
+pub mod Choices
+pub mod Next
+pub mod Heights
+pub mod Fewer
+pub mod ExpressionSteps
+pub mod Lists
+pub mod Further

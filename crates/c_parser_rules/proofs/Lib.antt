@@ -1,0 +1,14 @@
+pub mod RunsLaws
+pub mod Stability
+pub mod Meanings
+pub mod Soundness
+pub mod Outline
+pub mod Samples
+pub mod ExpressionsRight
+pub mod DeclarationsRight
+pub mod Follow
+pub mod CompleteSteps
+pub mod CompleteExpressions
+pub mod CompleteDeclarations
+pub mod CompleteStatements
+pub mod Laws

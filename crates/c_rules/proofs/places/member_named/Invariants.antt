@@ -1,6 +1,0 @@
-use Rattle.std.proofs.Common.{◌≡◌}
-use Rattle.c_rules.proofs.Members.{from}
-use Rattle.c_rules.proofs.places.member_named.Given as goal
-
-abbrev pub invariant-loop-i : goal.invariant-loop-i
-invariant-loop-i l = from l.name l.members l.i ≡ from l.name l.members 0

@@ -1,7 +1,0 @@
-//! Laws of typing.
-ghost use Rattle.c_rules.specs.Sound.{OperatorsAreSound};
-
-/// What an operator's rule accepts keeps the rules of typing.
-pub fn operators_are_sound()
-    ensures { OperatorsAreSound }
-{}

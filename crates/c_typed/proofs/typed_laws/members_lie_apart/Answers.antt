@@ -1,5 +1,0 @@
-use Rattle.c_typed.proofs.SizeLemmas.{members_lie_apart}
-use Rattle.c_typed.proofs.typed_laws.members_lie_apart.Goals as goal
-
-pub returns : goal.returns
-returns c = members_lie_apart

@@ -1,5 +1,0 @@
-use Rattle.c_typed.proofs.TypedLemmas.{types_are_small}
-use Rattle.c_typed.proofs.typed_laws.types_are_small.Goals as goal
-
-pub returns : goal.returns
-returns c = types_are_small

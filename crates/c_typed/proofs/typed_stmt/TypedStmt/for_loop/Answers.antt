@@ -1,5 +1,0 @@
-use Rattle.c_typed.proofs.TypedViewed.{view-For}
-use Rattle.c_typed.proofs.typed_stmt.TypedStmt.for_loop.Goals as goal
-
-pub returns : goal.returns
-returns c = rw (← c.in_ok-body.ensures.ok) (view-For c.args.at c.args.start c.args.condition c.args.step c.in_ok-body.body)

@@ -1,5 +1,0 @@
-use Rattle.c_typed.proofs.TypedViewed.{view-IfElse}
-use Rattle.c_typed.proofs.typed_stmt.TypedStmt.if_else.Goals as goal
-
-pub returns : goal.returns
-returns c = rw (← c.in_ok-body.ensures.ok, ← c.in_ok-new.ensures.ok) (view-IfElse c.args.at c.args.condition c.in_ok-body.body c.in_ok-new.field-0)

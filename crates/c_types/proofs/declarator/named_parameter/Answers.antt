@@ -1,7 +1,0 @@
-use Rattle.std.proofs.Common.{arith}
-use Rattle.std.proofs.lemmas.Grind.{common_steps}
-use Rattle.c_types.proofs.Pushed.{params_pushed}
-use Rattle.c_types.proofs.declarator.named_parameter.Goals as goal
-
-pub returns : goal.returns
-returns c = grind (arith, common_steps, params_pushed)

@@ -1,9 +1,0 @@
-use Rattle.std.proofs.Common.{◌≡◌, [], drop}
-use Rattle.std.specs.Prelude.{map}
-use Rattle.c_typed.specs.TypesViewed.{ty_of}
-use Rattle.c_typed.specs.TypedViews.{struct_of, initials_of}
-use Rattle.c_types.specs.Initializers.{parts_bytes}
-use Rattle.c_types.proofs.initial_bytes.+initial_bytes.Given as goal
-
-abbrev pub invariant-parts_bytes-loop-i : goal.invariant-parts_bytes-loop-i
-invariant-parts_bytes-loop-i l = parts_bytes (map struct_of l.structs) (ty_of l.ty) l.bytes.items l.i (initials_of (drop l.i l.parts)) ≡ parts_bytes (map struct_of l.fn.structs) (ty_of l.fn.ty) [] 0 (initials_of l.fn.parts)

@@ -1,7 +1,0 @@
-use Rattle.std.proofs.Common.{◌≡◌, ◌++◌}
-use Rattle.std.specs.Prelude.{replicate}
-use Rattle.c_typed.specs.declared.typed.InitialByte.TheVariants.{Byte}
-use Rattle.c_types.proofs.initial_bytes.pad.Given as goal
-
-abbrev pub invariant-loop-more : goal.invariant-loop-more
-invariant-loop-more l = l.bytes.items ≡ l.fn.bytes.items ++ replicate l._more (Byte 0)

@@ -1,8 +1,0 @@
-use Rattle.std.proofs.Common.{◌≡◌, drop}
-use Rattle.c_typed.specs.TypedViews.{initials_of}
-use Rattle.c_typed.specs.Walk.{over_initials}
-use Rattle.c_types.specs.Marks.{marking}
-use Rattle.c_types.proofs.marks.+initial_marks.Given as goal
-
-abbrev pub invariant-mark_initials-loop-part : goal.invariant-mark_initials-loop-part
-invariant-mark_initials-loop-part l = over_initials marking (initials_of (drop l.part-index l.parts)) l.marks.items ≡ over_initials marking (initials_of l.fn.parts) l.fn.marks.items

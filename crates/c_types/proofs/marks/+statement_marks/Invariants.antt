@@ -1,8 +1,0 @@
-use Rattle.std.proofs.Common.{◌≡◌, drop}
-use Rattle.c_typed.specs.TypedViews.{stmts_of}
-use Rattle.c_typed.specs.Walk.{over_stmts}
-use Rattle.c_types.specs.Marks.{marking}
-use Rattle.c_types.proofs.marks.+statement_marks.Given as goal
-
-abbrev pub invariant-mark_stmts-loop-statement : goal.invariant-mark_stmts-loop-statement
-invariant-mark_stmts-loop-statement l = over_stmts marking (stmts_of (drop l.statement-index l.statements)) l.marks.items ≡ over_stmts marking (stmts_of l.fn.statements) l.fn.marks.items

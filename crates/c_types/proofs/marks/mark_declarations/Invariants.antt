@@ -1,9 +1,0 @@
-use Rattle.std.proofs.Common.{◌≡◌, drop}
-use Rattle.std.specs.Prelude.{map}
-use Rattle.c_typed.specs.TypedViews.{declaration_of}
-use Rattle.c_typed.specs.Walk.{over_declarations}
-use Rattle.c_types.specs.Marks.{marking}
-use Rattle.c_types.proofs.marks.mark_declarations.Given as goal
-
-abbrev pub invariant-loop-declaration : goal.invariant-loop-declaration
-invariant-loop-declaration l = over_declarations marking (map declaration_of (drop l.declaration-index l.declarations)) l.marks.items ≡ over_declarations marking (map declaration_of l.fn.declarations) l.fn.marks.items

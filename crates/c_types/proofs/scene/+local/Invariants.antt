@@ -1,5 +1,0 @@
-use Rattle.std.proofs.Common.{length}
-use Rattle.c_types.proofs.scene.+local.Given as goal
-
-abbrev pub decreases-local : goal.decreases-local
-decreases-local l = length l.scopes.now

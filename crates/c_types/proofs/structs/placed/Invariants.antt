@@ -1,9 +1,0 @@
-use Rattle.std.proofs.Common.{◌≡◌, ◌++◌, drop}
-use Rattle.std.specs.Prelude.{map}
-use Rattle.c_typed.specs.TypedViews.{struct_of, member_of}
-use Rattle.c_types.specs.Scene.{draft_of}
-use Rattle.c_types.specs.Structs.{placed}
-use Rattle.c_types.proofs.structs.placed.Given as goal
-
-abbrev pub invariant-loop-member : goal.invariant-loop-member
-invariant-loop-member l = map member_of l.done.items ++ placed (map struct_of l.structs) l.from (map draft_of (drop l.member-index l.members)) ≡ placed (map struct_of l.structs) 0 (map draft_of l.members)

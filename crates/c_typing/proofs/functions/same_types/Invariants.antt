@@ -1,9 +1,0 @@
-use Rattle.std.proofs.Common.{◌≡◌, drop}
-use Rattle.std.specs.Prelude.{map}
-use Rattle.c_typed.specs.TypesViewed.{ty_of}
-use Rattle.c_types.specs.Parts.{param_of}
-use Rattle.c_typing.specs.Units.{same_types, param_types}
-use Rattle.c_typing.proofs.functions.same_types.Given as goal
-
-abbrev pub invariant-loop-i : goal.invariant-loop-i
-invariant-loop-i l = same_types (map ty_of (drop l.i l.types)) (param_types (map param_of (drop l.i l.params))) ≡ same_types (map ty_of l.types) (param_types (map param_of l.params))

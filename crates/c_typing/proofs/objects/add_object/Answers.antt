@@ -1,5 +1,0 @@
-use Rattle.c_typing.proofs.Wholes.{free_name}
-use Rattle.c_typing.proofs.objects.add_object.Goals as goal
-
-pub insert-requires : goal.insert-requires
-insert-requires c = free_name c.args.name.now c.args.file.now.scene.names _ c.requires

@@ -1,4 +1,0 @@
-pub mod Units
-pub mod UnitSteps
-pub mod Examples
-pub mod Laws

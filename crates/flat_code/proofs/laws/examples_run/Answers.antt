@@ -1,5 +1,0 @@
-use Rattle.flat_code.proofs.Worked as proofs
-use Rattle.flat_code.proofs.laws.examples_run.Goals as goal
-
-pub returns : goal.returns
-returns c = proofs.examples_run

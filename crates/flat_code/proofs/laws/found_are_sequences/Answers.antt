@@ -1,5 +1,0 @@
-use Rattle.flat_code.proofs.Found as found
-use Rattle.flat_code.proofs.laws.found_are_sequences.Goals as goal
-
-pub returns : goal.returns
-returns c = found.found_are_sequences

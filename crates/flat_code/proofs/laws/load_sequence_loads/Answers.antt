@@ -1,5 +1,0 @@
-use Rattle.flat_code.proofs.Load as load
-use Rattle.flat_code.proofs.laws.load_sequence_loads.Goals as goal
-
-pub returns : goal.returns
-returns c = load.load_sequence_loads

@@ -1,5 +1,0 @@
-use Rattle.flat_code.proofs.Advance as advance
-use Rattle.flat_code.proofs.laws.programs_advance.Goals as goal
-
-pub returns : goal.returns
-returns c = advance.programs_advance

@@ -1,5 +1,0 @@
-use Rattle.flat_code.proofs.Found as found
-use Rattle.flat_code.proofs.laws.sequences_are_found.Goals as goal
-
-pub returns : goal.returns
-returns c = found.sequences_are_found

@@ -1,0 +1,11 @@
+pub mod Words
+pub mod Move
+pub mod Advance
+pub mod Load
+pub mod Span
+pub mod Worked
+pub mod More
+pub mod Fronts
+pub mod Found
+pub mod Straight
+pub mod Traps

@@ -1,0 +1,5 @@
+use Rattle.flat_code_laws.proofs.Fronts as fronts
+use Rattle.flat_code_laws.proofs.laws.safe_appends.Goals as goal
+
+pub returns : goal.returns
+returns c = fronts.safe_appends

@@ -1,0 +1,5 @@
+use Rattle.flat_code_laws.proofs.Fronts as fronts
+use Rattle.flat_code_laws.proofs.laws.trail_begins.Goals as goal
+
+pub returns : goal.returns
+returns c = fronts.trail_begins

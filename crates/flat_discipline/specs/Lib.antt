@@ -1,0 +1,11 @@
+pub mod Items
+pub mod Facts
+pub mod Chains
+pub mod Breaks
+pub mod Discipline
+pub mod Closed
+pub mod Derivations
+pub mod Examples
+pub mod Laws
+pub mod Comes
+pub mod Safe

@@ -1,5 +1,0 @@
-use Rattle.flat_verify.proofs.Recognized as recognized
-use Rattle.flat_verify.proofs.laws.items_are_steps.Goals as goal
-
-pub returns : goal.returns
-returns c = recognized.items_are_steps

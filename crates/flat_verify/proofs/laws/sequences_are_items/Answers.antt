@@ -1,5 +1,0 @@
-use Rattle.flat_verify.proofs.Recognized as recognized
-use Rattle.flat_verify.proofs.laws.sequences_are_items.Goals as goal
-
-pub returns : goal.returns
-returns c = recognized.sequences_are_items c.sequences_are_found.ensures

@@ -1,8 +1,0 @@
-use Rattle.std.proofs.Common.{◌≡◌}
-use Rattle.std.specs.Prelude.{drop, map}
-use Rattle.lowering.specs.Built.{are_built_structs}
-use Rattle.c_typed.specs.TypedViews.{struct_of}
-use Rattle.lowering.proofs.built.are_built_structs.Given as goal
-
-abbrev pub invariant-loop-found : goal.invariant-loop-found
-invariant-loop-found l = are_built_structs (map struct_of (drop l.found-index l.structs)) ≡ are_built_structs (map struct_of l.structs)

@@ -1,0 +1,14 @@
+pub mod Sim
+pub mod Meets
+pub mod Fits
+pub mod Operators
+pub mod Steps
+pub mod Expressions
+pub mod Statements
+pub mod Calls
+pub mod FromTyped
+pub mod Light
+pub mod FortyTwo
+pub mod Reckoning
+pub mod Reckoned
+pub mod FormedCode

@@ -1,5 +1,0 @@
-use Rattle.rv_machine.proofs.UsedFrame.{frame_is_used}
-use Rattle.rv_machine.proofs.examples.frame_is_used.Goals as goal
-
-pub returns : goal.returns
-returns c = frame_is_used c.reads_back.ensures c.text_stands.ensures

@@ -1,5 +1,0 @@
-use Rattle.rv_machine.proofs.ExampleRuns.{unsafe_examples}
-use Rattle.rv_machine.proofs.examples.unsafe_examples.Goals as goal
-
-pub returns : goal.returns
-returns c = unsafe_examples c.clauses_refuse.ensures

@@ -1,5 +1,0 @@
-use Rattle.rv_machine.proofs.Programs.{byte_back}
-use Rattle.rv_machine.proofs.laws.byte_read_back.Goals as goal
-
-pub returns : goal.returns
-returns c = byte_back

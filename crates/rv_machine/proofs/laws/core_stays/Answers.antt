@@ -1,5 +1,0 @@
-use Rattle.rv_machine.proofs.Cores.{step_core}
-use Rattle.rv_machine.proofs.laws.core_stays.Goals as goal
-
-pub returns : goal.returns
-returns c = step_core c.reads_only.ensures

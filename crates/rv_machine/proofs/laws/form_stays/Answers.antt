@@ -1,5 +1,0 @@
-use Rattle.rv_machine.proofs.Forms.{step_formed}
-use Rattle.rv_machine.proofs.laws.form_stays.Goals as goal
-
-pub returns : goal.returns
-returns c = step_formed c.reads_only.ensures (record { place = c.place_is_least.ensures; exponent = c.exponent_is_least.ensures })

@@ -1,5 +1,0 @@
-use Rattle.rv_machine.proofs.Forms.{formed_laid_out}
-use Rattle.rv_machine.proofs.laws.live_are_laid_out.Goals as goal
-
-pub returns : goal.returns
-returns c = formed_laid_out

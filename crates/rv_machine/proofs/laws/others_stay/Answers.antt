@@ -1,5 +1,0 @@
-use Rattle.rv_machine.proofs.Tables.{written_other}
-use Rattle.rv_machine.proofs.laws.others_stay.Goals as goal
-
-pub returns : goal.returns
-returns c = written_other

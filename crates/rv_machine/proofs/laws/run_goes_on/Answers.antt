@@ -1,5 +1,0 @@
-use Rattle.rv_machine.proofs.RunTells.{run_goes_on}
-use Rattle.rv_machine.proofs.laws.run_goes_on.Goals as goal
-
-pub returns : goal.returns
-returns c = run_goes_on

@@ -1,5 +1,0 @@
-use Rattle.rv_machine.proofs.SafeRuns.{accesses_are_high}
-use Rattle.rv_machine.proofs.laws.safe_accesses_are_high.Goals as goal
-
-pub returns : goal.returns
-returns c = accesses_are_high (record { place = c.place_is_least.ensures; exponent = c.exponent_is_least.ensures })

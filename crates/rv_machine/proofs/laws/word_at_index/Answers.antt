@@ -1,5 +1,0 @@
-use Rattle.rv_machine.proofs.Programs.{word_at_index}
-use Rattle.rv_machine.proofs.laws.word_at_index.Goals as goal
-
-pub returns : goal.returns
-returns c = λ memory at words i stand l. word_at_index words memory at i stand l

@@ -1,0 +1,4 @@
+pub mod Safety
+pub mod Seen
+pub mod Laws
+pub mod Examples

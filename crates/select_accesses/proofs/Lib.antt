@@ -1,0 +1,5 @@
+pub mod Loading
+pub mod Storing
+pub mod Checking
+pub mod Looking
+pub mod Framed

@@ -1,0 +1,2 @@
+//! Selected accesses to memory and the looks at the table.
+#![tactic(auto)]

@@ -1,0 +1,2 @@
+//! Selected calls and functions, with the frames that they push.
+#![tactic(auto)]

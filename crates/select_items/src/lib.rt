@@ -1,0 +1,2 @@
+//! Selected lists of items.
+#![tactic(auto)]

@@ -1,0 +1,10 @@
+pub mod Agree
+pub mod Reach
+pub mod Moves
+pub mod Pieces
+pub mod Accesses
+pub mod Writes
+pub mod Tables
+pub mod Images
+pub mod Calm
+pub mod Claimed

@@ -1,0 +1,3 @@
+pub mod Constructs
+pub mod Steps
+pub mod Slots

@@ -1,0 +1,2 @@
+//! Selected steps on values, constructs, and pointers' slots.
+#![tactic(auto)]

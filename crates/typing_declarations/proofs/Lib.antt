@@ -1,0 +1,3 @@
+pub mod InScopes
+pub mod Layouts
+pub mod GivenCounts

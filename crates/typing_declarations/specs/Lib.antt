@@ -1,0 +1,4 @@
+pub mod Declarators
+pub mod DeclaratorSteps
+pub mod Structs
+pub mod StructSteps

@@ -1,0 +1,2 @@
+pub mod InitializerSteps
+pub mod Marks

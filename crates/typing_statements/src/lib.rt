@@ -1,0 +1,4 @@
+//! The typing of statements and of the declarations in them.
+#![tactic(auto)]
+
+pub mod statement;
