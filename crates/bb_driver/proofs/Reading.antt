@@ -19,6 +19,7 @@ use Rattle.block_layout.specs.Answers.{ObjectsFit}
 use Rattle.mid_code.specs.declared.code.Mid.{Mid}
 use Rattle.lowering_counts.specs.declared.error.LowerError.{LowerError}
 use Rattle.lowering_counts.specs.declared.error.LowerError.TheVariants as lower
+use Rattle.lowering_counts.specs.declared.counts.ProgramCounts.{ProgramCounts}
 use Rattle.lowering_counts.specs.Limits.{IsWithin}
 use Rattle.lowering.specs.Lowers.{IsLowered}
 use Rattle.bb_driver.specs.declared.error.CompileError.{CompileError}
@@ -79,7 +80,7 @@ not_built text p means fit h = (means, record { objects = fit; nodes = h.0; valu
 pub within : (text : List ℕ) (p : CProgram) → Means text p → ObjectsFit p → IsWithin {A = Unit {0}} p (Ok tt) → Accepts text p
 within text p means fit h = (means, record { objects = fit; nodes = h.0; values = h.1 })
 
-pub limit_checks : (text : List ℕ) (p : CProgram) (e : LowerError) → Means text p → ObjectsFit p → IsWithin {A = Unit {0}} p (Err e) → Checks text (Err (of_lower e))
+pub limit_checks : (text : List ℕ) (p : CProgram) (e : LowerError) → Means text p → ObjectsFit p → IsWithin {A = ProgramCounts} p (Err e) → Checks text (Err (of_lower e))
 limit_checks text p (lower.TooManyNodes count) means fit h = (p, means, fit, h)
 limit_checks text p (lower.TooManyValues name count) means fit h = (p, means, fit, h)
 limit_checks text p lower.NotBuilt means fit h = absurd h

@@ -12,7 +12,7 @@ use crate::source::{lay_out, read};
 use bb_words::list::List;
 use block_layout::globals::Layout;
 use lowering::lower::lower;
-use lowering_counts::limits::nodes_of;
+use lowering_counts::counts::counts_of;
 use mid_code::code::Mid;
 use mid_code::safe::SafeSites;
 use rv_image::image::Image;
@@ -63,6 +63,7 @@ fn image_or_refusal(alloc: Global, text: &[u8]) -> Result<Compiled, CompileError
     let layout = lay_out(alloc, &program)?;
     let mid = lower(alloc, &program)?;
     let image = image_of(alloc, &mid)?;
+    let counts = counts_of(alloc, &program)?;
     Ok(Compiled {
         image,
         layout,
@@ -70,6 +71,6 @@ fn image_or_refusal(alloc: Global, text: &[u8]) -> Result<Compiled, CompileError
         safe: SafeSites {
             sites: List::new(alloc),
         },
-        nodes: nodes_of(program.functions.as_slice()),
+        nodes: counts.nodes,
     })
 }

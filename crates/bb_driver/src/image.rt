@@ -12,7 +12,7 @@ use bb_words::list::{Bytes, List};
 use bounds_instr::error::InstrError;
 use bounds_instr::instrument::instrument;
 use flat_verify::error::VerifyError;
-use flat_verify::layout::Layout;
+use flat_verify::global_blocks::GlobalBlocks;
 use flat_verify::verify::verify;
 use mid_code::code::Mid;
 use rv_asm::resolve::resolve;
@@ -48,10 +48,10 @@ pub(crate) fn image_of(alloc: Global, mid: &Mid) -> Result<Image, AllocError>
         Err(InstrError::Memory) => return Err(AllocError),
         Err(InstrError::NotBuilt) => unreachable!(),
     };
-    let layout = Layout {
+    let globals = GlobalBlocks {
         globals: List::new(alloc),
     };
-    let verified = match verify(alloc, &flat, &layout, SLOT_EXPONENT) {
+    let verified = match verify(alloc, &flat, &globals, SLOT_EXPONENT) {
         Ok(verified) => verified,
         Err(VerifyError::Memory) => return Err(AllocError),
         Err(VerifyError::Unchecked { .. }) => unreachable!(),

@@ -9,7 +9,7 @@ use Rattle.flat_discipline.specs.Facts.{Fact, Setting}
 use Rattle.flat_discipline.specs.Chains.{Spot}
 use Rattle.flat_discipline.specs.Closed.{Known, Exact}
 use Rattle.flat_discipline.specs.Breaks.{address, reads, operands, pointer, shared, AddressLost, ReadLost, BreaksInside, InsideStep, Inside, Breaks, BreaksAll}
-use Rattle.flat_discipline.specs.Discipline.{setting, edges, LostAt, BreaksBy, BreaksAt, Place, FirstBad, FirstBreak}
+use Rattle.flat_discipline.specs.Discipline.{setting, edges, LostAt, BreaksBy, BreaksAt, StepIndex, FirstBad, FirstBreak}
 use Rattle.flat_discipline.specs.Laws.{BreaksByTable, ClosedTablesKnow, FirstIsOne, ExactTablesTell}
 use Rattle.flat_discipline.proofs.Least.{lost_in, least}
 
@@ -107,7 +107,7 @@ module _ (g : ℕ) (globals : List Block) (code : FCode) (A : ℕ → Fact → B
       (λ p v l. least S E A gives T exact.closed (Spot.At f p (Fact.Own v)) l (exact.closed.owns f v (lost_in S E (Spot.At f p (Fact.Own v)) l)))
       (S f) g code.main f (slice_get code.functions f) q b
 
-  same_first : (answer : Option Place) → FirstBad (BreaksByTable g globals code T) answer → FirstBreak g globals code answer
+  same_first : (answer : Option StepIndex) → FirstBad (BreaksByTable g globals code T) answer → FirstBreak g globals code answer
   same_first None h = λ f q b. h f q (from_chains f q b)
   same_first (Some a) h = (to_chains a.function a.place h.0, λ b before bad. h.1 b before (from_chains b.function b.place bad))
 
@@ -119,7 +119,7 @@ exact_tables_tell g globals code A gives T exact answer h = same_first g globals
 compared : (a b : ℕ) → (a < b) ⊎ ((a ≡ b) ⊎ (b < a))
 compared a b = grind arith
 
-one_first : (Bad : ℕ → ℕ → Type 0) (a b : Option Place) → FirstBad Bad a → FirstBad Bad b → a ≡ b
+one_first : (Bad : ℕ → ℕ → Type 0) (a b : Option StepIndex) → FirstBad Bad a → FirstBad Bad b → a ≡ b
 one_first Bad None None h k = refl
 one_first Bad None (Some b) h k = absurd (h b.function b.place k.0)
 one_first Bad (Some a) None h k = absurd (k a.function a.place h.0)

@@ -90,19 +90,19 @@ module _ (g : ℕ) (globals : List Block) (code : FCode) where
 
 -- ---- The first break
 
-pub record Place : Type 0 where
+pub record StepIndex : Type 0 where
   pub function : ℕ
   pub place : ℕ
 
 -- functions come in their order, and in a function its places
-abbrev pub Before : Place → Place → Type 0
+abbrev pub Before : StepIndex → StepIndex → Type 0
 Before a b = (a.function < b.function) ⊎ ((a.function ≡ b.function) × (a.place < b.place))
 
 -- the answer is the first place that is bad, or there is none
-abbrev pub FirstBad : (Bad : (function place : ℕ) → Type 0) → Option Place → Type 0
+abbrev pub FirstBad : (Bad : (function place : ℕ) → Type 0) → Option StepIndex → Type 0
 FirstBad Bad None = (f q : ℕ) → Bad f q → ⊥
-FirstBad Bad (Some a) = Bad a.function a.place × ((b : Place) → Before b a → Bad b.function b.place → ⊥)
+FirstBad Bad (Some a) = Bad a.function a.place × ((b : StepIndex) → Before b a → Bad b.function b.place → ⊥)
 
 -- the first place that breaks the discipline
-abbrev pub FirstBreak : (g : ℕ) → (globals : List Block) → FCode → Option Place → Type 0
+abbrev pub FirstBreak : (g : ℕ) → (globals : List Block) → FCode → Option StepIndex → Type 0
 FirstBreak g globals code answer = FirstBad (BreaksAt g globals code) answer

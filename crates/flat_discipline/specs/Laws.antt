@@ -8,7 +8,7 @@ use Rattle.flat_discipline.specs.Items.{Item, Items, all_steps, items_of}
 use Rattle.flat_discipline.specs.Facts.{Fact}
 use Rattle.flat_discipline.specs.Breaks.{is_plain}
 use Rattle.flat_discipline.specs.Closed.{Known, ClosedOn, Exact}
-use Rattle.flat_discipline.specs.Discipline.{setting, edges, LostAt, BreaksBy, Place, FirstBad, FirstBreak, IsDisciplined}
+use Rattle.flat_discipline.specs.Discipline.{setting, edges, LostAt, BreaksBy, StepIndex, FirstBad, FirstBreak, IsDisciplined}
 use Rattle.flat_discipline.specs.Derivations.{Signs, GoodProgram}
 
 -- ---- Items
@@ -64,7 +64,8 @@ DerivationsAreAccepted = (g : ℕ) (globals : List Block) (sg : Signs) (code : F
 
 -- there is at most one
 abbrev pub FirstIsOne : Type 0
-FirstIsOne = (g : ℕ) (globals : List Block) (code : FCode) (a b : Option Place) → FirstBreak g globals code a → FirstBreak g globals code b → a ≡ b
+FirstIsOne = (g : ℕ) (globals : List Block) (code : FCode) (a b : Option StepIndex) → FirstBreak g globals code a → FirstBreak g globals code b
+    → a ≡ b
 
 -- the places that break the discipline by a table
 module _ (g : ℕ) (globals : List Block) (code : FCode) (T : ℕ → ℕ → Known) where
@@ -75,5 +76,5 @@ module _ (g : ℕ) (globals : List Block) (code : FCode) (T : ℕ → ℕ → Kn
 abbrev pub ExactTablesTell : Type 0
 ExactTablesTell =
     (g : ℕ) (globals : List Block) (code : FCode) (A : ℕ → Fact → Bool) (gives : ℕ → Bool) (T : ℕ → ℕ → Known)
-    → Exact (setting g globals code.functions) (edges g globals code.functions) A gives T → (answer : Option Place)
+    → Exact (setting g globals code.functions) (edges g globals code.functions) A gives T → (answer : Option StepIndex)
     → FirstBad (BreaksByTable g globals code T) answer → FirstBreak g globals code answer

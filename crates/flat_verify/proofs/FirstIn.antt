@@ -8,7 +8,7 @@ use Rattle.flat_code.specs.Code.{FFunction, FCode}
 use Rattle.flat_code.specs.CodeViews.{function_of, steps_of}
 use Rattle.flat_verify.specs.declared.sheets.Sheet.{Sheet as SheetWritten}
 use Rattle.flat_discipline.specs.Closed.{Known}
-use Rattle.flat_discipline.specs.Discipline.{setting_in, setting, Place, FirstBad, FirstBreak}
+use Rattle.flat_discipline.specs.Discipline.{setting_in, setting, StepIndex, FirstBad, FirstBreak}
 use Rattle.flat_discipline.specs.Laws.{BreaksByTable}
 use Rattle.flat_verify.specs.Reach.{Reached, is_marked}
 use Rattle.flat_discipline.specs.Items.{items_of}
@@ -168,7 +168,7 @@ module _ (g : ℕ) (globals : List Block) (code : FCode) where
   -- what the marks tell is what the chains tell
   pub tells : (sheets : List Sheet) (total : ℕ) (marks read : List Bool) → read ≡ marks → AreSheets g globals code.functions 0 code.functions sheets → Stands (suc (length sheets)) sheets total
       → ((n : ℕ) → is_marked marks n ≡ true → Reached (all_rules sheets) n) → ((n : ℕ) → Reached (all_rules sheets) n → is_marked marks n ≡ true)
-      → (o : Option Place) → FirstBad (BreaksByTable g globals code (known sheets read)) o → FirstBreak g globals code o
+      → (o : Option StepIndex) → FirstBad (BreaksByTable g globals code (known sheets read)) o → FirstBreak g globals code o
   tells sheets total marks read e are stands reached marked o first =
       exact_tables_tell g globals code (asks sheets) (gives sheets marks) (known sheets marks) (exact g globals code.functions sheets total are stands marks reached marked) o
       (subst (λ z. FirstBad (BreaksByTable g globals code (known sheets z)) o) e first)

@@ -9,7 +9,7 @@ use Rattle.flat_discipline.specs.Items.{items_of}
 use Rattle.flat_discipline.specs.Facts.{Fact, Setting}
 use Rattle.flat_discipline.specs.Closed.{Known}
 use Rattle.flat_verify.specs.Links.{Demand, AnyLost, IsUnmet, UnmetAt}
-use Rattle.flat_discipline.specs.Discipline.{Place, Before, FirstBad, BreaksBy, setting}
+use Rattle.flat_discipline.specs.Discipline.{StepIndex, Before, FirstBad, BreaksBy, setting}
 use Rattle.flat_discipline.specs.Laws.{BreaksByTable}
 use Rattle.flat_verify.specs.Verdict.{function_demands, any_unknown, is_unmet, lower, first_unmet, FirstOf}
 use Rattle.flat_verify.proofs.Links.{breaks_unmet, unmet_breaks}
@@ -160,7 +160,7 @@ module _ (g : ℕ) (globals : List Block) (code : FCode) (T : ℕ → ℕ → Kn
       let first = subst (FirstOf (BreaksByTable g globals code T n)) is (function_first n fn at) in
       (first.0, λ b before bad. by b before bad first.1)
     where
-      by : (b : Place) → Before b record { function = n; place = a } → BreaksByTable g globals code T b.function b.place → ((q : ℕ) → q < a → BreaksByTable g globals code T n q → ⊥) → ⊥
+      by : (b : StepIndex) → Before b record { function = n; place = a } → BreaksByTable g globals code T b.function b.place → ((q : ℕ) → q < a → BreaksByTable g globals code T n q → ⊥) → ⊥
       by b (inl l) bad more = none b.function b.place l bad
       by b (inr (e, l)) bad more = more b.place l (subst (λ i. BreaksByTable g globals code T i b.place) e bad)
 
@@ -177,7 +177,7 @@ module _ (g : ℕ) (globals : List Block) (code : FCode) (T : ℕ → ℕ → Kn
       side : (f n : ℕ) → (f < n) ⊎ (n ≤ f)
       side f n = grind arith
 
-      by : (b : Place) → Before b record { function = code.main; place = 0 } → BreaksByTable g globals code T b.function b.place → (b.function < length code.functions) ⊎ (length code.functions ≤ b.function) → ⊥
+      by : (b : StepIndex) → Before b record { function = code.main; place = 0 } → BreaksByTable g globals code T b.function b.place → (b.function < length code.functions) ⊎ (length code.functions ≤ b.function) → ⊥
       by b before bad (inl m) = none b.function b.place m bad
       by b (inl less) bad (inr m) = omega (arith, less, (past_is b.function b.place m bad).0)
       by b (inr (e, less)) bad (inr m) = omega (arith, less)

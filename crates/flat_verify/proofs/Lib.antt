@@ -11,3 +11,5 @@ pub mod Sized
 pub mod Outlined
 pub mod FirstIn
 pub mod Demanded
+pub mod ItemViewed
+pub mod ItemWalk

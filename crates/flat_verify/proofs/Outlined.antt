@@ -109,7 +109,7 @@ asked s (Source.From (Fact.Spanned a n)) h = λ m. ap (λ b. is_some (none_unles
     some (Some k) e = refl
 
 covers : (s : Sheet) (l : Link) → HasRange s.ranges l → IsCovered s l
-covers s (Link.Goes Effect.Keeps a b) h = tt
+covers s (Link.Goes Effect.KeepsFacts a b) h = tt
 covers s (Link.Goes (Effect.Sets to clean ends) a b) h = asked s clean h
 covers s (Link.Goes (Effect.Checks q) a b) h = tt
 covers s (Link.Passes a f args) h = tt

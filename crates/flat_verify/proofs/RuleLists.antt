@@ -37,7 +37,7 @@ unless_either false c x y e = unless_gone c x y e
 
 -- where a fact comes from is asked, if it is asked
 pub asked_source : (s : Sheet) (e : Effect) (a b : ℕ) (x y : Fact) → IsCovered s (Link.Goes e a b) → is_asked s x ≡ true → source_by e x ≡ Source.From y → in_values s y ≡ true → is_asked s y ≡ true
-asked_source s Effect.Keeps a b x y c ask e m = subst (λ z. is_asked s z ≡ true) (from_itself false x y e) ask
+asked_source s Effect.KeepsFacts a b x y c ask e m = subst (λ z. is_asked s z ≡ true) (from_itself false x y e) ask
 asked_source s (Effect.Sets to clean ends) a b (Fact.Clean v) y c ask e m = by (v == to) e
   where
     by : (t : Bool) → cond t clean (Source.From (Fact.Clean v)) ≡ Source.From y → is_asked s y ≡ true

@@ -4,10 +4,11 @@ pub mod Reach
 pub mod Sheets
 pub mod Verdict
 pub mod Marked
-pub mod Told
+pub mod Hints
 pub mod Views
+pub mod ItemViews
 pub mod SheetViews
-pub mod Scenes
+pub mod Settings
 pub mod Outline
 pub mod Places
 pub mod Answer

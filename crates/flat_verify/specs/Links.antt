@@ -39,11 +39,11 @@ module _ (g : ℕ) (s : Setting) where
     links h (Item.Plain x) p after exits = goes (effect s h (Item.Plain x)) p (leads (leading x) after exits) ++ hands_out x p
     links h (Item.Checks q) p after exits = Link.Goes (Effect.Checks q) p after ∷ []
     links h (Item.If c x y) p after exits =
-        Link.Goes Effect.Keeps p (first_place x (p + 1) after) ∷ Link.Goes Effect.Keeps p (first_place y (p + 1 + all_places g x) after)
+        Link.Goes Effect.KeepsFacts p (first_place x (p + 1) after) ∷ Link.Goes Effect.KeepsFacts p (first_place y (p + 1 + all_places g x) after)
         ∷ (links_all (branch h c) x (p + 1) after exits ++ links_all untold y (p + 1 + all_places g x) after exits)
-    links h (Item.Block x) p after exits = Link.Goes Effect.Keeps p (first_place x (p + 1) after) ∷ links_all untold x (p + 1) after (after ∷ exits)
-    links h (Item.Loop x) p after exits = Link.Goes Effect.Keeps p (first_place x (p + 1) p) ∷ links_all untold x (p + 1) p (after ∷ exits)
-    links h (Item.Inner x) p after exits = Link.Goes Effect.Keeps p (first_place x (p + 1) p) ∷ links_all untold x (p + 1) p (after ∷ exits)
+    links h (Item.Block x) p after exits = Link.Goes Effect.KeepsFacts p (first_place x (p + 1) after) ∷ links_all untold x (p + 1) after (after ∷ exits)
+    links h (Item.Loop x) p after exits = Link.Goes Effect.KeepsFacts p (first_place x (p + 1) p) ∷ links_all untold x (p + 1) p (after ∷ exits)
+    links h (Item.Inner x) p after exits = Link.Goes Effect.KeepsFacts p (first_place x (p + 1) p) ∷ links_all untold x (p + 1) p (after ∷ exits)
 
     pub links_all : Here → Items → (p after : ℕ) → List ℕ → List Link
     links_all h Items.end p after exits = []

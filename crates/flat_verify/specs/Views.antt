@@ -14,7 +14,7 @@ use Rattle.flat_verify.specs.declared.facts.Link.{Link as LinkWritten}
 use Rattle.flat_verify.specs.declared.facts.Link.TheVariants as link
 use Rattle.flat_verify.specs.declared.facts.Demand.{Demand as DemandWritten}
 use Rattle.flat_verify.specs.declared.facts.GlobalBlock.{GlobalBlock}
-use Rattle.flat_verify.specs.declared.layout.Layout.{Layout}
+use Rattle.flat_verify.specs.declared.global_blocks.GlobalBlocks.{GlobalBlocks}
 use Rattle.flat_discipline.specs.Facts.{Fact, Source, Setting}
 use Rattle.flat_verify.specs.Effects.{Effect}
 use Rattle.flat_verify.specs.Links.{Link, Demand, demand}
@@ -32,7 +32,7 @@ source_of (source.From x) = Source.From (fact_of x)
 source_of (source.FromCall f) = Source.FromCall f
 
 abbrev pub effect_of : EffectWritten → Effect
-effect_of effect.Keeps = Effect.Keeps
+effect_of effect.KeepsFacts = Effect.KeepsFacts
 effect_of (effect.Sets to clean ends) = Effect.Sets to (source_of clean) ends
 effect_of (effect.Checks q) = Effect.Checks (sequence_of q)
 
@@ -47,7 +47,7 @@ demand_of d = demand d.place d.at d.fits (map fact_of d.facts.items)
 abbrev pub block_of : GlobalBlock → Block
 block_of b = block_at b.base b.exponent
 
-abbrev pub blocks_of : Layout → List Block
+abbrev pub blocks_of : GlobalBlocks → List Block
 blocks_of l = map block_of l.globals
 
 -- the setting of a function, among all functions and global objects

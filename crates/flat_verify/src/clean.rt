@@ -4,45 +4,45 @@ ghost use Rattle.size_table.specs.Blocks.{end_of};
 ghost use Rattle.flat_code.specs.CodeViews.{step_of};
 ghost use Rattle.flat_discipline.specs.Facts.{lies_in, held_if, reach_past, is_masked, element, sum_of, clean_of};
 ghost use Rattle.flat_discipline.specs.Facts.Source.{Gone};
-ghost use Rattle.flat_verify.specs.Told.{here_of, guard_written, origin_written};
+ghost use Rattle.flat_verify.specs.Hints.{here_of, guard_written, origin_written};
 ghost use Rattle.flat_verify.specs.Views.{setting_for, source_of, block_of, AreSmall};
 
 use crate::facts::{Fact, GlobalBlock, Source};
-use crate::told::{Limit, SetBy, Told, set_last};
+use crate::hints::{Hints, Limit, SetBy, origin_at};
 use bb_words::steps::ArithOp;
 use flat_code::code::{FlatFunction, FlatStep};
 
-fn end_address(block: GlobalBlock) -> u64
+fn end_of(block: GlobalBlock) -> u64
     requires { block.exponent ≤ 24 }
     ensures { result ≡ end_of (block_of block) }
 {
     u64::from(block.base) + (1u64 << block.exponent)
 }
 
-fn lies_in_one(globals: &[GlobalBlock], x: u32) -> bool
+fn lies_in(globals: &[GlobalBlock], x: u32) -> bool
     requires { AreSmall globals.now }
     ensures { result ≡ lies_in (map block_of globals.now) x }
 {
     match globals {
         [] => false,
         [first, rest @ ..] => {
-            (first.base <= x && u64::from(x) < end_address(*first)) || lies_in_one(rest, x)
+            (first.base <= x && u64::from(x) < end_of(*first)) || lies_in(rest, x)
         }
     }
 }
 
-fn one_reaches_past(globals: &[GlobalBlock], x: u64) -> bool
+fn reach_past(globals: &[GlobalBlock], x: u64) -> bool
     requires { AreSmall globals.now }
     ensures { result ≡ reach_past (map block_of globals.now) x }
 {
     match globals {
         [] => false,
-        [first, rest @ ..] => x < end_address(*first) || one_reaches_past(rest, x),
+        [first, rest @ ..] => x < end_of(*first) || reach_past(rest, x),
     }
 }
 
 // A base and a mask whose sum stays in the frame or below the end of the global objects.
-fn stays_inside(
+fn is_masked(
     globals: &[GlobalBlock],
     functions: &[FlatFunction],
     function: &FlatFunction,
@@ -56,7 +56,7 @@ fn stays_inside(
         SetBy::AtMost(m) => match base {
             SetBy::InFrame(o) => u64::from(o) + u64::from(m) < u64::from(function.frame),
             SetBy::Constant(b) => {
-                lies_in_one(globals, b) && one_reaches_past(globals, u64::from(b) + u64::from(m))
+                lies_in(globals, b) && reach_past(globals, u64::from(b) + u64::from(m))
             }
             _ => false,
         },
@@ -64,7 +64,7 @@ fn stays_inside(
     }
 }
 
-fn of_element(guard: Option<Limit>, pointer: u32, index: u32) -> Source
+fn element(guard: Option<Limit>, pointer: u32, index: u32) -> Source
     ensures { source_of result ≡ element (guard_written guard) pointer index }
 {
     match guard {
@@ -79,11 +79,11 @@ fn of_element(guard: Option<Limit>, pointer: u32, index: u32) -> Source
     }
 }
 
-fn of_sum(
+fn sum_of(
     globals: &[GlobalBlock],
     functions: &[FlatFunction],
     function: &FlatFunction,
-    told: &Told,
+    told: &Hints,
     op: ArithOp,
     left: u32,
     right: u32,
@@ -93,12 +93,12 @@ fn of_sum(
 {
     match op {
         ArithOp::Add => {
-            let base = set_last(&told.origins, left);
-            let mask = set_last(&told.origins, right);
-            if stays_inside(globals, functions, function, base, mask) {
+            let base = origin_at(&told.origins, left);
+            let mask = origin_at(&told.origins, right);
+            if is_masked(globals, functions, function, base, mask) {
                 Source::Held
             } else {
-                of_element(told.guard, left, right)
+                element(told.guard, left, right)
             }
         }
         _ => Source::Gone,
@@ -109,7 +109,7 @@ fn of_number(globals: &[GlobalBlock], value: u32) -> Source
     requires { AreSmall globals.now }
     ensures { source_of result ≡ held_if ((value == 0) || lies_in (map block_of globals.now) value) Gone }
 {
-    if value == 0 || lies_in_one(globals, value) {
+    if value == 0 || lies_in(globals, value) {
         Source::Held
     } else {
         Source::Gone
@@ -118,11 +118,11 @@ fn of_number(globals: &[GlobalBlock], value: u32) -> Source
 
 /// Where it comes from that the value is untainted which the step sets.
 #[tactic(auto, using(flat_code::proofs::CodeViewed::flat_views))]
-pub(crate) fn clean_source(
+pub(crate) fn clean_of(
     globals: &[GlobalBlock],
     functions: &[FlatFunction],
     function: &FlatFunction,
-    told: &Told,
+    told: &Hints,
     step: &FlatStep,
 ) -> Source
     requires { AreSmall globals.now }
@@ -136,7 +136,7 @@ pub(crate) fn clean_source(
             op,
             left,
             right,
-        } => of_sum(globals, functions, function, told, *op, *left, *right),
+        } => sum_of(globals, functions, function, told, *op, *left, *right),
         FlatStep::FrameAt { to: _, offset: _ } => Source::Held,
         FlatStep::Call {
             to: _,

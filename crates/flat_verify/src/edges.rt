@@ -1,44 +1,50 @@
 //! The ways on which facts go in a function, in the order of its items.
-ghost use Rattle.std.specs.Prelude.{◌≡◌, ◌<◌, ◌+◌, ◌∷◌, [], ◌++◌, ℕ, map, drop, length, IfOk, OnOk};
-ghost use Rattle.flat_code.specs.CodeViews.{step_of, steps_of};
-ghost use Rattle.flat_discipline.specs.Items.{item_of, items_of, items_from, first_place};
+ghost use Rattle.std.specs.Prelude.{◌≡◌, ◌+◌, ◌∷◌, ◌++◌, map, IfOk, OnOk};
+ghost use Rattle.flat_code.specs.CodeViews.{step_of};
+ghost use Rattle.flat_discipline.specs.Items.{first_place};
 ghost use Rattle.flat_discipline.specs.Items.Item.{Plain};
 ghost use Rattle.flat_discipline.specs.Facts.{untold, here_after};
 ghost use Rattle.flat_verify.specs.Effects.{effect};
-ghost use Rattle.flat_verify.specs.Effects.Effect.{Keeps};
+ghost use Rattle.flat_verify.specs.Effects.Effect.{KeepsFacts};
 ghost use Rattle.flat_discipline.specs.Chains.{leading, leads};
 ghost use Rattle.flat_discipline.specs.Chains as chain;
+ghost use Rattle.flat_verify.specs.ItemViews.{as_item, as_items};
 ghost use Rattle.flat_verify.specs.Links.{goes, hands_out, links_all};
 ghost use Rattle.flat_verify.specs.Links as link;
 ghost use Rattle.flat_verify.specs.Links.Link.{Goes};
-ghost use Rattle.flat_verify.specs.Scenes.{setting_of};
-ghost use Rattle.flat_verify.specs.Told.{here_of};
+ghost use Rattle.flat_verify.specs.Settings.{setting_of};
+ghost use Rattle.flat_verify.specs.Hints.{here_of};
 ghost use Rattle.flat_verify.specs.Views.{effect_of, link_of, AreSmall};
 
-use crate::clean::clean_source;
-use crate::demands::{places_of, places_of_all, places_sum};
-use crate::effects::size_of_sequence;
+use crate::clean::clean_of;
+use crate::demands::places_sum;
 use crate::facts::{Effect, Link};
-use crate::scene::Scene;
+use crate::hints::{Hints, branch, tell, untold};
+use crate::items::{FlatItem, all_places, first_place, places};
+use crate::setting::Setting;
 use crate::sheets::NoMemory;
-use crate::steps::{copied, may_end_blocks, value_set};
-use crate::told::{Told, nothing_told, tell_step, told_in_branch};
+use crate::steps::{copied, may_end, sets};
 use flat_code::code::FlatStep;
-use flat_code::recognize::sequence_at;
 use std::alloc::Global;
 
 // What a plain step does to facts.
-fn step_effect(scene: &Scene, told: &Told, step: &FlatStep) -> Effect
-    requires { AreSmall scene.now.globals.now }
-    ensures { effect_of result ≡ effect (setting_of scene.now) (here_of told.now) (Plain (step_of step.now)) }
+fn step_effect(setting: &Setting, told: &Hints, step: &FlatStep) -> Effect
+    requires { AreSmall setting.now.globals.now }
+    ensures { effect_of result ≡ effect (setting_of setting.now) (here_of told.now) (Plain (step_of step.now)) }
 {
-    match value_set(step) {
+    match sets(step) {
         Some(to) => Effect::Sets {
             to,
-            clean: clean_source(scene.globals, scene.functions, scene.function, told, step),
-            ends: may_end_blocks(step),
+            clean: clean_of(
+                setting.globals,
+                setting.functions,
+                setting.function,
+                told,
+                step,
+            ),
+            ends: may_end(step),
         },
-        None => Effect::Keeps,
+        None => Effect::KeepsFacts,
     }
 }
 
@@ -88,7 +94,7 @@ fn push_goes(
 
 // What a step hands to other functions.
 #[tactic(auto, using(flat_code::proofs::CodeViewed::flat_views))]
-fn push_handed(
+fn push_hands_out(
     alloc: Global,
     step: &FlatStep,
     place: u32,
@@ -124,40 +130,22 @@ fn push_handed(
 // The links of a plain step.
 fn push_plain(
     alloc: Global,
-    scene: &Scene,
-    told: &Told,
+    setting: &Setting,
+    told: &Hints,
     exits: &[u32],
     step: &FlatStep,
     place: u32,
     after: u32,
     links: &mut Vec<Link>,
 ) -> Result<(), NoMemory>
-    requires { AreSmall scene.now.globals.now }
+    requires { AreSmall setting.now.globals.now }
     ensures { OnOk result (map link_of links.new.items ≡ map link_of links.old.items
-        ++ link.links scene.now.exponent (setting_of scene.now) (here_of told.now) (Plain (step_of step.now)) place after exits.now) }
+        ++ link.links setting.now.exponent (setting_of setting.now) (here_of told.now) (Plain (step_of step.now)) place after exits.now) }
 {
-    let effect = step_effect(scene, told, step);
+    let effect = step_effect(setting, told, step);
     push_goes(effect, place, next_of(step, after, exits), links)?;
-    push_handed(alloc, step, place, links)?;
+    push_hands_out(alloc, step, place, links)?;
     Ok(())
-}
-
-// The place to which a construct leads first: that of its steps, or the one after them if there are none.
-fn entry_of(steps: &[FlatStep], first: u32, after: u32) -> u32
-    ensures { (g : ℕ) → result ≡ first_place (items_of g (steps_of steps.now)) first after }
-{
-    let count = steps.len();
-    if count > 0 { first } else { after }
-}
-
-// The place that comes next behind the step at `i` and `skip` more: that of the first step that is left, or the one after
-// all of them.
-fn place_left(steps: &[FlatStep], i: usize, skip: usize, next: u32, after: u32) -> u32
-    requires { i < length steps.now }
-    ensures { (g : ℕ) → result ≡ first_place (items_from g skip (steps_of (drop (i + 1) steps.now))) next after }
-{
-    let left = steps.len() - i - 1;
-    if skip < left { next } else { after }
 }
 
 // The exits inside a construct that leads to a place when it is left.
@@ -170,166 +158,139 @@ fn within(alloc: Global, after: u32, exits: &[u32]) -> Result<Vec<u32>, NoMemory
     Ok(around)
 }
 
-// What is told behind a step outside of sequences.
-#[tactic(auto, using(flat_code::proofs::CodeViewed::flat_views))]
-fn tell_past(alloc: Global, told: &mut Told, step: &FlatStep) -> Result<(), NoMemory>
-    ensures { OnOk result ((g : ℕ) → here_of told.new ≡ here_after (item_of g (step_of step.now)) (here_of told.old)) }
+// What is told behind an item.
+#[tactic(auto, using(crate::proofs::ItemViewed::item_views))]
+fn here_after(alloc: Global, told: &mut Hints, item: &FlatItem) -> Result<(), NoMemory>
+    ensures { OnOk result (here_of told.new ≡ here_after (as_item item.now) (here_of told.old)) }
 {
-    match step {
-        FlatStep::If {
+    match item {
+        FlatItem::Plain { step } => {
+            tell(told, step)?;
+            Ok(())
+        }
+        FlatItem::Checks { sequence: _ }
+        | FlatItem::If {
             cond: _,
             yes: _,
             no: _,
-        } => {
-            *told = nothing_told(alloc);
-            Ok(())
         }
-        FlatStep::Block { body: _ } => {
-            *told = nothing_told(alloc);
-            Ok(())
-        }
-        FlatStep::Loop { body: _ } => {
-            *told = nothing_told(alloc);
-            Ok(())
-        }
-        FlatStep::Inner { body: _ } => {
-            *told = nothing_told(alloc);
-            Ok(())
-        }
-        _ => {
-            tell_step(told, step)?;
+        | FlatItem::Block { body: _ }
+        | FlatItem::Loop { body: _ }
+        | FlatItem::Inner { body: _ } => {
+            *told = untold(alloc);
             Ok(())
         }
     }
 }
 
-// The links of a step outside of sequences, with those of the steps in it.
-#[cycle(items)]
-#[tactic(auto, using(flat_code::proofs::CodeViewed::flat_views, crate::proofs::Sized::item_places, flat_discipline::proofs::Walked::body_size))]
-fn push_item(
+// The links of an item, with those of the items in it.
+#[cycle(links)]
+#[tactic(auto, using(crate::proofs::ItemViewed::item_views, crate::proofs::ItemWalk::item_places))]
+fn push_links(
     alloc: Global,
-    scene: &Scene,
-    told: &Told,
+    setting: &Setting,
+    told: &Hints,
     exits: &[u32],
-    step: &FlatStep,
+    item: &FlatItem,
     place: u32,
     after: u32,
     links: &mut Vec<Link>,
 ) -> Result<(), NoMemory>
-    requires { AreSmall scene.now.globals.now }
+    requires { AreSmall setting.now.globals.now }
     ensures { OnOk result (map link_of links.new.items ≡ map link_of links.old.items
-        ++ link.links scene.now.exponent (setting_of scene.now) (here_of told.now) (item_of scene.now.exponent (step_of step.now)) place after exits.now) }
+        ++ link.links setting.now.exponent (setting_of setting.now) (here_of told.now) (as_item item.now) place after exits.now) }
 {
-    match step {
-        FlatStep::If { cond, yes, no } => {
+    match item {
+        FlatItem::Plain { step } => {
+            push_plain(alloc, setting, told, exits, step, place, after, links)?;
+            Ok(())
+        }
+        FlatItem::Checks { sequence } => {
+            push_goes(Effect::Checks(*sequence), place, Some(after), links)?;
+            Ok(())
+        }
+        FlatItem::If { cond, yes, no } => {
             let first = places_sum(place, 1)?;
-            let size = places_of_all(yes)?;
+            let size = all_places(yes)?;
             let second = places_sum(first, size)?;
-            push_goes(
-                Effect::Keeps,
-                place,
-                Some(entry_of(yes, first, after)),
-                links,
-            )?;
-            push_goes(
-                Effect::Keeps,
-                place,
-                Some(entry_of(no, second, after)),
-                links,
-            )?;
-            let inside = told_in_branch(alloc, told, *cond);
-            push_items(alloc, scene, inside, exits, yes, first, after, links)?;
-            let untold = nothing_told(alloc);
-            push_items(alloc, scene, untold, exits, no, second, after, links)?;
+            let to_yes = first_place(yes, 0, first, after);
+            push_goes(Effect::KeepsFacts, place, Some(to_yes), links)?;
+            let to_no = first_place(no, 0, second, after);
+            push_goes(Effect::KeepsFacts, place, Some(to_no), links)?;
+            let inside = branch(alloc, told, *cond);
+            push_links_all(alloc, setting, inside, exits, yes, first, after, links)?;
+            let untold = untold(alloc);
+            push_links_all(alloc, setting, untold, exits, no, second, after, links)?;
             Ok(())
         }
-        FlatStep::Block { body } => {
+        FlatItem::Block { body } => {
             let around = within(alloc, after, exits)?;
-            push_body(alloc, scene, &around, body, place, after, links)?;
+            push_body(alloc, setting, &around, body, place, after, links)?;
             Ok(())
         }
-        FlatStep::Loop { body } => {
+        FlatItem::Loop { body } => {
             let around = within(alloc, after, exits)?;
-            push_body(alloc, scene, &around, body, place, place, links)?;
+            push_body(alloc, setting, &around, body, place, place, links)?;
             Ok(())
         }
-        FlatStep::Inner { body } => {
+        FlatItem::Inner { body } => {
             let around = within(alloc, after, exits)?;
-            push_body(alloc, scene, &around, body, place, place, links)?;
-            Ok(())
-        }
-        _ => {
-            push_plain(alloc, scene, told, exits, step, place, after, links)?;
+            push_body(alloc, setting, &around, body, place, place, links)?;
             Ok(())
         }
     }
 }
 
-// What leads from the construct at a place to its steps, and their links.
-#[cycle(items)]
-#[tactic(auto, using(crate::proofs::Sized::item_places))]
+// What leads from the construct at a place to its items, and their links.
+#[cycle(links)]
+#[tactic(auto, using(crate::proofs::ItemViewed::item_views, crate::proofs::ItemWalk::item_places))]
 fn push_body(
     alloc: Global,
-    scene: &Scene,
+    setting: &Setting,
     exits: &[u32],
-    body: &[FlatStep],
+    body: &[FlatItem],
     place: u32,
     after: u32,
     links: &mut Vec<Link>,
 ) -> Result<(), NoMemory>
-    requires { AreSmall scene.now.globals.now }
+    requires { AreSmall setting.now.globals.now }
     ensures { OnOk result (map link_of links.new.items ≡ map link_of links.old.items
-        ++ (Goes Keeps place (first_place (items_of scene.now.exponent (steps_of body.now)) (place + 1) after)
-        ∷ links_all scene.now.exponent (setting_of scene.now) untold (items_of scene.now.exponent (steps_of body.now)) (place + 1) after exits.now)) }
+        ++ (Goes KeepsFacts place (first_place (as_items body.now) (place + 1) after)
+        ∷ links_all setting.now.exponent (setting_of setting.now) untold (as_items body.now) (place + 1) after exits.now)) }
 {
     let first = places_sum(place, 1)?;
-    let to = entry_of(body, first, after);
-    push_goes(Effect::Keeps, place, Some(to), links)?;
-    let told = nothing_told(alloc);
-    push_items(alloc, scene, told, exits, body, first, after, links)?;
+    let to = first_place(body, 0, first, after);
+    push_goes(Effect::KeepsFacts, place, Some(to), links)?;
+    let told = untold(alloc);
+    push_links_all(alloc, setting, told, exits, body, first, after, links)?;
     Ok(())
 }
 
-/// The links of steps that stand from a place on, before place `after`, in constructs with these exits.
-#[cycle(items)]
-#[tactic(auto, using(crate::proofs::Sized::item_places))]
-pub(crate) fn push_items(
+/// The links of items that stand from a place on, before place `after`, in constructs with these exits.
+#[cycle(links)]
+#[tactic(auto, using(crate::proofs::ItemViewed::item_views, crate::proofs::ItemWalk::item_places))]
+pub(crate) fn push_links_all(
     alloc: Global,
-    scene: &Scene,
-    told: Told,
+    setting: &Setting,
+    told: Hints,
     exits: &[u32],
-    steps: &[FlatStep],
+    items: &[FlatItem],
     place: u32,
     after: u32,
     links: &mut Vec<Link>,
 ) -> Result<(), NoMemory>
-    requires { AreSmall scene.now.globals.now }
+    requires { AreSmall setting.now.globals.now }
     ensures { OnOk result (map link_of links.new.items ≡ map link_of links.old.items
-        ++ links_all scene.now.exponent (setting_of scene.now) (here_of told) (items_of scene.now.exponent (steps_of steps.now)) place after exits.now) }
+        ++ links_all setting.now.exponent (setting_of setting.now) (here_of told) (as_items items.now) place after exits.now) }
 {
     let mut told = told;
-    let mut skip: usize = 0;
     let mut next = place;
-    for (i, step) in steps.iter().enumerate() {
-        if skip > 0 {
-            skip -= 1;
-            continue;
-        }
-        if let Some(sequence) = sequence_at(alloc, scene.exponent, &steps[i..])? {
-            let (count, size) = size_of_sequence(sequence);
-            skip = count - 1;
-            let behind = places_sum(next, size)?;
-            let to = place_left(steps, i, skip, behind, after);
-            push_goes(Effect::Checks(sequence), next, Some(to), links)?;
-            told = nothing_told(alloc);
-            next = behind;
-            continue;
-        }
-        let size = places_of(step)?;
+    for (i, item) in items.iter().enumerate() {
+        let size = places(item)?;
         let behind = places_sum(next, size)?;
-        let to = place_left(steps, i, 0, behind, after);
-        push_item(alloc, scene, &told, exits, step, next, to, links)?;
-        tell_past(alloc, &mut told, step)?;
+        let to = first_place(items, i + 1, behind, after);
+        push_links(alloc, setting, &told, exits, item, next, to, links)?;
+        here_after(alloc, &mut told, item)?;
         next = behind;
     }
     Ok(())

@@ -26,7 +26,7 @@ fn is_temporary(q: FlatSequence, v: u32) -> bool
     }
 }
 
-fn gives_value(q: FlatSequence, v: u32) -> bool
+fn gives(q: FlatSequence, v: u32) -> bool
     ensures { result ≡ gives (sequence_of q) v }
 {
     match q {
@@ -36,7 +36,7 @@ fn gives_value(q: FlatSequence, v: u32) -> bool
     }
 }
 
-fn spans_range(q: FlatSequence, a: u32, n: u32) -> bool
+fn spans(q: FlatSequence, a: u32, n: u32) -> bool
     ensures { result ≡ spans (sequence_of q) a n }
 {
     match q {
@@ -45,7 +45,7 @@ fn spans_range(q: FlatSequence, a: u32, n: u32) -> bool
     }
 }
 
-fn may_set_value(q: FlatSequence, v: u32) -> bool
+fn may_set(q: FlatSequence, v: u32) -> bool
     ensures { result ≡ may_set (sequence_of q) v }
 {
     let is_result = match q {
@@ -56,12 +56,12 @@ fn may_set_value(q: FlatSequence, v: u32) -> bool
     is_result || is_temporary(q, v)
 }
 
-fn source_after_sequence(q: FlatSequence, fact: Fact) -> Source
+fn sequence_source(q: FlatSequence, fact: Fact) -> Source
     ensures { source_of result ≡ sequence_source (sequence_of q) (fact_of fact) }
 {
     match fact {
         Fact::Clean(v) => {
-            if gives_value(q, v) {
+            if gives(q, v) {
                 Source::Held
             } else if is_temporary(q, v) {
                 Source::Gone
@@ -70,7 +70,7 @@ fn source_after_sequence(q: FlatSequence, fact: Fact) -> Source
             }
         }
         Fact::Own(v) => {
-            if gives_value(q, v) {
+            if gives(q, v) {
                 Source::Held
             } else if is_temporary(q, v) {
                 Source::Gone
@@ -79,9 +79,9 @@ fn source_after_sequence(q: FlatSequence, fact: Fact) -> Source
             }
         }
         Fact::Spanned(a, n) => {
-            if spans_range(q, a, n) {
+            if spans(q, a, n) {
                 Source::Held
-            } else if may_set_value(q, a) || may_set_value(q, n) {
+            } else if may_set(q, a) || may_set(q, n) {
                 Source::Gone
             } else {
                 Source::From(fact)
@@ -90,7 +90,7 @@ fn source_after_sequence(q: FlatSequence, fact: Fact) -> Source
     }
 }
 
-fn source_after_set(to: u32, clean: Source, ends: bool, fact: Fact) -> Source
+fn source_by_set(to: u32, clean: Source, ends: bool, fact: Fact) -> Source
     ensures { source_of result ≡ source_by (Sets to (source_of clean) ends) (fact_of fact) }
 {
     match fact {
@@ -113,18 +113,18 @@ fn source_after_set(to: u32, clean: Source, ends: bool, fact: Fact) -> Source
 }
 
 /// Where a fact after an item comes from.
-pub(crate) fn source_after(effect: Effect, fact: Fact) -> Source
+pub(crate) fn source_by(effect: Effect, fact: Fact) -> Source
     ensures { source_of result ≡ source_by (effect_of effect) (fact_of fact) }
 {
     match effect {
-        Effect::Keeps => Source::From(fact),
-        Effect::Sets { to, clean, ends } => source_after_set(to, clean, ends, fact),
-        Effect::Checks(q) => source_after_sequence(q, fact),
+        Effect::KeepsFacts => Source::From(fact),
+        Effect::Sets { to, clean, ends } => source_by_set(to, clean, ends, fact),
+        Effect::Checks(q) => sequence_source(q, fact),
     }
 }
 
 /// What a sequence is given.
-pub(crate) fn operands_of(alloc: Global, q: FlatSequence) -> Result<Vec<u32>, AllocError>
+pub(crate) fn operands(alloc: Global, q: FlatSequence) -> Result<Vec<u32>, AllocError>
     ensures { IfOk result (λ v. v.items ≡ operands (sequence_of q)) }
 {
     match q {
@@ -147,7 +147,11 @@ pub(crate) fn pointer_of(q: FlatSequence) -> (u32, u32)
 }
 
 /// The steps of a sequence, for slots of 2^g bytes.
-pub(crate) fn steps_in(alloc: Global, g: u8, q: FlatSequence) -> Result<Vec<FlatStep>, AllocError>
+pub(crate) fn sequence_steps(
+    alloc: Global,
+    g: u8,
+    q: FlatSequence,
+) -> Result<Vec<FlatStep>, AllocError>
     requires least { 1 ≤ g }
     requires most { g ≤ 24 }
     ensures { IfOk result (λ v. steps_of v.items ≡ sequence_steps g (sequence_of q)) }
@@ -162,6 +166,7 @@ pub(crate) fn steps_in(alloc: Global, g: u8, q: FlatSequence) -> Result<Vec<Flat
 /// How many steps a sequence has at its top, and how many places.
 pub(crate) fn size_of_sequence(q: FlatSequence) -> (usize, u32)
     ensures steps { (g : ℕ) → result.0 ≡ count (sequence_steps g (sequence_of q)) }
+    ensures some { 1 ≤ result.0 }
     ensures places { (g : ℕ) → result.1 ≡ steps_places (sequence_steps g (sequence_of q)) }
 {
     match q {

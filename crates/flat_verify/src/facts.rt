@@ -24,7 +24,7 @@ pub enum Source {
 /// What an item does to facts.
 #[derive(Clone, Copy)]
 pub enum Effect {
-    Keeps,
+    KeepsFacts,
     /// A value is set: where it comes from that it is untainted, and whether a block may end.
     Sets { to: u32, clean: Source, ends: bool },
     Checks(FlatSequence),

@@ -1,4 +1,9 @@
-//! The discipline of flat code: which code is safe whatever memory holds, and why.
+//! The checker of the discipline of flat code.
+//!
+//! `verify::verify` answers exactly where nothing breaks the discipline, else with the first place that does. It reads the steps
+//! of each function as items (`items`), lists the links between what is known at them (`edges`) and the demands on it
+//! (`wanted`), marks what is lost (`rules`, `reach`), and looks for the first demand that is not met (`verdict`, `unchecked`).
+//! What passes is `Verified`, which keeps the items.
 #![tactic(auto)]
 
 mod clean;
@@ -7,16 +12,17 @@ mod edges;
 mod effects;
 pub mod error;
 pub mod facts;
-pub mod layout;
+pub mod global_blocks;
+pub mod hints;
+pub mod items;
 pub mod marked;
 mod outline;
 mod program;
 pub mod reach;
 pub mod rules;
-pub mod scene;
+pub mod setting;
 pub mod sheets;
 mod steps;
-pub mod told;
 mod unchecked;
 pub mod verdict;
 pub mod verified;

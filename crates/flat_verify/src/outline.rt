@@ -9,7 +9,7 @@ ghost use Rattle.flat_verify.specs.SheetViews.{range_of};
 ghost use Rattle.flat_verify.specs.Views.{link_of, effect_of, source_of, fact_of};
 
 use crate::facts::{Effect, Fact, Link, Source};
-use crate::sheets::{NoMemory, Range, number_of_range};
+use crate::sheets::{NoMemory, Range, range_number};
 use std::alloc::Global;
 
 // One more than the greatest place so far, and than the place to which the link leads.
@@ -93,7 +93,7 @@ fn push_range(ranges: &mut Vec<Range>, range: Range) -> Result<(), NoMemory>
     ensures kept { OnOk result ((a n : ℕ) → is_some (range_number (map range_of ranges.old.items) a n) ≡ true
         → is_some (range_number (map range_of ranges.new.items) a n) ≡ true) }
 {
-    match number_of_range(ranges, range.pointer, range.count) {
+    match range_number(ranges, range.pointer, range.count) {
         Some(_) => Ok(()),
         None => {
             ranges.push(range)?;

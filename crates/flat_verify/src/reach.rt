@@ -15,7 +15,7 @@ pub struct Stretch {
 }
 
 // Marks where the rule leads, if where it comes from is marked; whether that was not marked before.
-fn lead(marks: &mut [bool], from: usize, to: usize) -> bool
+fn led_by(marks: &mut [bool], from: usize, to: usize) -> bool
     requires { to < length marks.old }
     ensures led { marks.new ≡ led_by (rule from to) marks.old }
     ensures same { result ≡ false → marks.new ≡ marks.old }
@@ -36,14 +36,14 @@ fn lead_stretch(marks: &mut [bool], stretch: Stretch) -> bool
 {
     let mut changed = false;
     for i in 0..stretch.count {
-        if lead(marks, stretch.from + i, stretch.to + i) {
+        if led_by(marks, stretch.from + i, stretch.to + i) {
             changed = true;
         }
     }
     changed
 }
 
-fn lead_all(marks: &mut [bool], stretches: &[Stretch]) -> bool
+fn led_by_all(marks: &mut [bool], stretches: &[Stretch]) -> bool
     requires { AreBelow (length marks.old) stretches.now }
     ensures led { marks.new ≡ led_by_all (rules_of stretches.now) marks.old }
     ensures same { result ≡ false → marks.new ≡ marks.old }
@@ -68,7 +68,7 @@ fn settle(marks: &mut [bool], stretches: &[Stretch])
     ensures marked { (n : ℕ) → Reached (rules_of stretches.now) n → is_marked marks.new n ≡ true }
 {
     'pass: loop {
-        if !lead_all(marks, stretches) {
+        if !led_by_all(marks, stretches) {
             return;
         }
     }

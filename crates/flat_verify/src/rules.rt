@@ -8,7 +8,7 @@ ghost use Rattle.flat_verify.specs.Reach.{rule, rules_of, AreBelow, Reached, is_
 ghost use Rattle.flat_verify.specs.Sheets.{width, none_unless, fact_cell, rule_if, rule_both, goes_rules, passes_rules, passes_to};
 ghost use Rattle.flat_verify.specs.Sheets.{link_rules, links_rules, start_rules, sheet_rules, rules_after, all_rules};
 
-use crate::effects::source_after;
+use crate::effects::source_by;
 use crate::facts::{Effect, Fact, Link};
 use crate::reach::{Stretch, reached};
 use crate::sheets::{NoMemory, Sheet};
@@ -77,7 +77,7 @@ fn push_rule_both(
 }
 
 // The rules along an edge.
-fn push_goes(
+fn push_goes_rules(
     stretches: &mut Vec<Stretch>,
     size: usize,
     functions: usize,
@@ -92,7 +92,7 @@ fn push_goes(
     ensures below { OnOk result (AreBelow size stretches.new.items) }
 {
     for k in 0..sheet.width() {
-        let source = source_after(effect, sheet.fact(k));
+        let source = source_by(effect, sheet.fact_at(k));
         let lost = sheet.source_cell(functions, from, source)?;
         let cell = sheet.cell(to, k)?;
         push_rule_if(stretches, size, lost, cell)?;
@@ -106,14 +106,14 @@ fn parameter_cell(sheet: &Sheet, k: usize) -> Result<Option<usize>, NoMemory>
     ensures { IfOk result (λ o. o ≡ none_unless (nat_lt k (sheet_of sheet.now).params) (fact_cell (sheet_of sheet.now) 0 (Clean k))) }
 {
     if k < sheet.params as usize {
-        sheet.cell_of(0, Fact::Clean(k as u32))
+        sheet.fact_cell(0, Fact::Clean(k as u32))
     } else {
         Ok(None)
     }
 }
 
 // The rules from arguments to parameters.
-fn push_passes(
+fn push_passes_rules(
     stretches: &mut Vec<Stretch>,
     size: usize,
     from: &Sheet,
@@ -127,7 +127,7 @@ fn push_passes(
     ensures below { OnOk result (AreBelow size stretches.new.items) }
 {
     for k in 0..args.len() {
-        let lost = from.cell_of(place, Fact::Clean(args[k]))?;
+        let lost = from.fact_cell(place, Fact::Clean(args[k]))?;
         if k >= 0xFFFF_FFFF {
             return Err(NoMemory);
         }
@@ -156,10 +156,10 @@ fn push_passes_to(
     if g >= sheets.len() {
         return Ok(());
     }
-    push_passes(stretches, size, from, &sheets[g], place, args)
+    push_passes_rules(stretches, size, from, &sheets[g], place, args)
 }
 
-fn push_link(
+fn push_link_rules(
     stretches: &mut Vec<Stretch>,
     size: usize,
     sheets: &[Sheet],
@@ -175,7 +175,7 @@ fn push_link(
 {
     match link {
         Link::Goes { effect, from, to } => {
-            push_goes(stretches, size, sheets.len(), sheet, *effect, *from, *to)
+            push_goes_rules(stretches, size, sheets.len(), sheet, *effect, *from, *to)
         }
         Link::Passes {
             from,
@@ -183,14 +183,14 @@ fn push_link(
             args,
         } => push_passes_to(stretches, size, sheets, sheet, *from, *function, args),
         Link::Returns { from, value } => {
-            let lost = sheet.cell_of(*from, Fact::Clean(*value))?;
+            let lost = sheet.fact_cell(*from, Fact::Clean(*value))?;
             push_rule_if(stretches, size, lost, f + 1)
         }
     }
 }
 
 // The rules of a function.
-fn push_sheet(
+fn push_sheet_rules(
     stretches: &mut Vec<Stretch>,
     size: usize,
     sheets: &[Sheet],
@@ -203,12 +203,16 @@ fn push_sheet(
         ++ sheet_rules (map sheet_of sheets.now) f (sheet_of sheet.now)) }
     ensures below { OnOk result (AreBelow size stretches.new.items) }
 {
-    push_starts(stretches, size, sheet)?;
-    push_links(stretches, size, sheets, f, sheet)
+    push_start_rules(stretches, size, sheet)?;
+    push_links_rules(stretches, size, sheets, f, sheet)
 }
 
 // At a function's start no span stands.
-fn push_starts(stretches: &mut Vec<Stretch>, size: usize, sheet: &Sheet) -> Result<(), NoMemory>
+fn push_start_rules(
+    stretches: &mut Vec<Stretch>,
+    size: usize,
+    sheet: &Sheet,
+) -> Result<(), NoMemory>
     requires { AreBelow size stretches.old.items }
     ensures rules { OnOk result (rules_of stretches.new.items ≡ rules_of stretches.old.items
         ++ start_rules (sheet_of sheet.now) (length (sheet_of sheet.now).ranges)) }
@@ -223,7 +227,7 @@ fn push_starts(stretches: &mut Vec<Stretch>, size: usize, sheet: &Sheet) -> Resu
     Ok(())
 }
 
-fn push_links(
+fn push_links_rules(
     stretches: &mut Vec<Stretch>,
     size: usize,
     sheets: &[Sheet],
@@ -237,19 +241,19 @@ fn push_links(
     ensures below { OnOk result (AreBelow size stretches.new.items) }
 {
     for link in &sheet.links {
-        push_link(stretches, size, sheets, f, sheet, link)?;
+        push_link_rules(stretches, size, sheets, f, sheet, link)?;
     }
     Ok(())
 }
 
 /// All rules of a program whose functions have these sheets, with numbers below `size`.
-pub fn rules(alloc: Global, sheets: &[Sheet], size: usize) -> Result<Vec<Stretch>, NoMemory>
+pub fn all_rules(alloc: Global, sheets: &[Sheet], size: usize) -> Result<Vec<Stretch>, NoMemory>
     ensures rules { IfOk result (λ v. rules_of v.items ≡ all_rules (map sheet_of sheets.now)) }
     ensures below { IfOk result (λ v. AreBelow size v.items) }
 {
     let mut stretches = Vec::new(alloc);
     for f in 0..sheets.len() {
-        push_sheet(&mut stretches, size, sheets, f, &sheets[f])?;
+        push_sheet_rules(&mut stretches, size, sheets, f, &sheets[f])?;
     }
     Ok(stretches)
 }
@@ -262,7 +266,7 @@ pub fn marks_of(alloc: Global, sheets: &[Sheet], total: usize) -> Result<Vec<boo
     ensures reached { IfOk result (λ marks. (n : ℕ) → is_marked marks.items n ≡ true → Reached (all_rules (map sheet_of sheets.now)) n) }
     ensures marked { IfOk result (λ marks. (n : ℕ) → Reached (all_rules (map sheet_of sheets.now)) n → is_marked marks.items n ≡ true) }
 {
-    let stretches = rules(alloc, sheets, total)?;
+    let stretches = all_rules(alloc, sheets, total)?;
     let marks = reached(alloc, &stretches, total)?;
     Ok(marks)
 }

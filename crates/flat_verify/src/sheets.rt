@@ -67,7 +67,7 @@ pub(crate) fn product(a: usize, b: usize) -> Result<usize, NoMemory>
 }
 
 // The number of the first range with these values.
-pub(crate) fn number_of_range(ranges: &[Range], pointer: u32, count: u32) -> Option<usize>
+pub(crate) fn range_number(ranges: &[Range], pointer: u32, count: u32) -> Option<usize>
     ensures number { result ≡ range_number (map range_of ranges.now) pointer count }
     ensures below { IfSome result (λ i. i < length ranges.now) }
 {
@@ -89,7 +89,7 @@ impl Sheet {
     }
 
     /// The number of a fact among those that are asked, if it is one of them.
-    pub(crate) fn number(&self, fact: Fact) -> Option<usize>
+    pub(crate) fn fact_number(&self, fact: Fact) -> Option<usize>
         ensures { result ≡ fact_number (sheet_of self.now) (fact_of fact) }
     {
         match fact {
@@ -109,7 +109,7 @@ impl Sheet {
             }
             Fact::Spanned(a, n) => {
                 if a < self.values && n < self.values {
-                    match number_of_range(&self.ranges, a, n) {
+                    match range_number(&self.ranges, a, n) {
                         Some(i) => Some(2 * (self.values as usize) + i),
                         None => None,
                     }
@@ -121,7 +121,7 @@ impl Sheet {
     }
 
     /// The fact of a number.
-    pub(crate) fn fact(&self, k: usize) -> Fact
+    pub(crate) fn fact_at(&self, k: usize) -> Fact
         requires { k < width (sheet_of self.now) }
         ensures { fact_of result ≡ fact_at (sheet_of self.now) k }
     {
@@ -146,11 +146,11 @@ impl Sheet {
     }
 
     /// The number of a fact at a place, if it is asked there.
-    pub(crate) fn cell_of(&self, place: u32, fact: Fact) -> Result<Option<usize>, NoMemory>
+    pub(crate) fn fact_cell(&self, place: u32, fact: Fact) -> Result<Option<usize>, NoMemory>
         ensures { IfOk result (λ o. o ≡ fact_cell (sheet_of self.now) place (fact_of fact)) }
     {
         if (place as usize) < self.places {
-            match self.number(fact) {
+            match self.fact_number(fact) {
                 Some(k) => {
                     let n = self.cell(place, k)?;
                     Ok(Some(n))
@@ -174,7 +174,7 @@ impl Sheet {
         match source {
             Source::Held => Ok(None),
             Source::Gone => Ok(Some(0)),
-            Source::From(fact) => self.cell_of(place, fact),
+            Source::From(fact) => self.fact_cell(place, fact),
             Source::FromCall(f) => {
                 if (f as usize) < functions {
                     Ok(Some(f as usize + 1))

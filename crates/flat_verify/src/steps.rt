@@ -12,7 +12,7 @@ use std::alloc::{AllocError, Global};
 
 /// The value that the step sets.
 #[tactic(auto, using(flat_code::proofs::CodeViewed::flat_views))]
-pub(crate) fn value_set(step: &FlatStep) -> Option<u32>
+pub(crate) fn sets(step: &FlatStep) -> Option<u32>
     ensures { result ≡ sets (step_of step.now) }
 {
     match step {
@@ -49,7 +49,7 @@ pub(crate) fn value_set(step: &FlatStep) -> Option<u32>
 
 /// Whether a block may end in the step.
 #[tactic(auto, using(flat_code::proofs::CodeViewed::flat_views))]
-pub(crate) fn may_end_blocks(step: &FlatStep) -> bool
+pub(crate) fn may_end(step: &FlatStep) -> bool
     ensures { result ≡ may_end (step_of step.now) }
 {
     match step {
@@ -70,7 +70,7 @@ pub(crate) fn may_end_blocks(step: &FlatStep) -> bool
 
 /// Whether the step is no construct and may stand outside of sequences.
 #[tactic(auto, using(flat_code::proofs::CodeViewed::flat_views))]
-pub(crate) fn is_plain_step(step: &FlatStep) -> bool
+pub(crate) fn is_plain(step: &FlatStep) -> bool
     ensures { result ≡ is_plain (step_of step.now) }
 {
     match step {
@@ -91,7 +91,7 @@ pub(crate) fn is_plain_step(step: &FlatStep) -> bool
 
 /// The value that the step uses as an address.
 #[tactic(auto, using(flat_code::proofs::CodeViewed::flat_views))]
-pub(crate) fn address_used(step: &FlatStep) -> Option<u32>
+pub(crate) fn address(step: &FlatStep) -> Option<u32>
     ensures { result ≡ address (step_of step.now) }
 {
     match step {
@@ -138,7 +138,7 @@ fn two(alloc: Global, a: u32, b: u32) -> Result<Vec<u32>, AllocError>
 
 /// The values that the step reads.
 #[tactic(auto, using(flat_code::proofs::CodeViewed::flat_views))]
-pub(crate) fn values_read(alloc: Global, step: &FlatStep) -> Result<Vec<u32>, AllocError>
+pub(crate) fn reads(alloc: Global, step: &FlatStep) -> Result<Vec<u32>, AllocError>
     ensures { IfOk result (λ v. v.items ≡ reads (step_of step.now)) }
 {
     match step {
@@ -186,12 +186,12 @@ pub(crate) fn values_read(alloc: Global, step: &FlatStep) -> Result<Vec<u32>, Al
     }
 }
 
-fn are_below(n: u32, values: &[u32]) -> bool
+fn all_below(n: u32, values: &[u32]) -> bool
     ensures { result ≡ all_below n values.now }
 {
     match values {
         [] => true,
-        [x, rest @ ..] => *x < n && are_below(n, rest),
+        [x, rest @ ..] => *x < n && all_below(n, rest),
     }
 }
 
@@ -218,7 +218,7 @@ fn has_params(functions: &[FlatFunction], k: u32, count: usize) -> bool
 
 /// Whether the numbers of a step are in range, within so many constructs that an Exit can leave.
 #[tactic(auto, using(flat_code::proofs::CodeViewed::flat_views))]
-pub(crate) fn numbers_fit(
+pub(crate) fn fits(
     functions: &[FlatFunction],
     function: &FlatFunction,
     levels: u32,
@@ -251,7 +251,7 @@ pub(crate) fn numbers_fit(
             args,
         } => {
             *to < n
-                && are_below(n, args)
+                && all_below(n, args)
                 && has_params(functions, *callee, args.len())
                 && function.line != 0
         }

@@ -10,7 +10,7 @@ ghost use Rattle.flat_verify.specs.Verdict as verdict;
 use crate::facts::{Demand, Fact};
 use crate::sheets::{NoMemory, Sheet};
 
-fn is_marked_cell(marks: &[bool], cell: Option<usize>) -> bool
+fn marked_if(marks: &[bool], cell: Option<usize>) -> bool
     ensures { result ≡ marked_if marks.now cell }
 {
     match cell {
@@ -30,11 +30,11 @@ fn is_lost(
     requires { f < length sheets.now }
     ensures { IfOk result (λ b. b ≡ sheet.is_lost (map sheet_of sheets.now) marks.now f place (fact_of fact)) }
 {
-    let cell = sheets[f].cell_of(place, fact)?;
-    Ok(is_marked_cell(marks, cell))
+    let cell = sheets[f].fact_cell(place, fact)?;
+    Ok(marked_if(marks, cell))
 }
 
-fn is_any_lost(
+fn any_unknown(
     sheets: &[Sheet],
     marks: &[bool],
     f: usize,
@@ -52,7 +52,7 @@ fn is_any_lost(
     Ok(false)
 }
 
-fn lower_place(found: Option<u32>, place: u32) -> Option<u32>
+fn lower(found: Option<u32>, place: u32) -> Option<u32>
     ensures { result ≡ lower found place }
 {
     match found {
@@ -72,14 +72,14 @@ fn is_unmet(sheets: &[Sheet], marks: &[bool], f: usize, demand: &Demand) -> Resu
     ensures { IfOk result (λ b. b ≡ verdict.is_unmet (known (map sheet_of sheets.now) marks.now f) (demand_of demand.now)) }
 {
     if demand.fits {
-        is_any_lost(sheets, marks, f, demand.at, &demand.facts)
+        any_unknown(sheets, marks, f, demand.at, &demand.facts)
     } else {
         Ok(true)
     }
 }
 
 /// The first place of a demand of function `f` that is not met by the marks.
-pub fn first_unmet_place(
+pub fn first_unmet(
     sheets: &[Sheet],
     marks: &[bool],
     f: usize,
@@ -91,7 +91,7 @@ pub fn first_unmet_place(
     let mut found: Option<u32> = None;
     for demand in demands {
         if is_unmet(sheets, marks, f, demand)? {
-            found = lower_place(found, demand.place);
+            found = lower(found, demand.place);
         }
     }
     Ok(found)

@@ -7,7 +7,8 @@ ghost use Rattle.flat_discipline.specs.Safe.{IsSafeAlways};
 ghost use Rattle.flat_verify.specs.Views.{blocks_of, AreSmall};
 
 use crate::error::VerifyError;
-use crate::layout::Layout;
+use crate::global_blocks::GlobalBlocks;
+use crate::items::bodies_of;
 use crate::unchecked::first_break;
 use crate::verified::Verified;
 use flat_code::code::Flat;
@@ -21,7 +22,7 @@ use std::alloc::Global;
 pub fn verify<'a>(
     alloc: Global,
     code: &'a Flat,
-    layout: &'a Layout,
+    layout: &'a GlobalBlocks,
     g: u8,
 ) -> Result<Verified<'a>, VerifyError>
     requires least { 2 ≤ g }
@@ -38,7 +39,8 @@ pub fn verify<'a>(
 {
     disciplined_is_safe();
     let globals = layout.globals.as_slice();
-    let first = first_break(alloc, g, globals, code)?;
+    let bodies = bodies_of(alloc, g, code.functions.as_slice())?;
+    let first = first_break(alloc, g, globals, code, &bodies)?;
     match first {
         Some(first) => Err(VerifyError::Unchecked {
             function: first.function,
@@ -48,6 +50,7 @@ pub fn verify<'a>(
             code,
             layout,
             exponent: g,
+            bodies,
         }),
     }
 }

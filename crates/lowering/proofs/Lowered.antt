@@ -8,6 +8,7 @@ use Rattle.typed_tree.specs.Typed.{Typed, IsFunction, HasLines}
 use Rattle.mid_code.specs.Code.{Program}
 use Rattle.mid_code.specs.Formed.{Formed}
 use Rattle.mid_code.specs.Weight.{weight}
+use Rattle.lowering_counts.specs.declared.counts.ProgramCounts.{ProgramCounts}
 use Rattle.lowering_counts.specs.declared.error.LowerError.{LowerError}
 use Rattle.lowering_counts.specs.declared.error.LowerError.TheVariants.{TooManyNodes, TooManyValues, NotBuilt, Memory}
 use Rattle.lowering_counts.specs.Built.{is_built}
@@ -30,7 +31,7 @@ code_is p code keeps light formed typed lines built room is = record {
 }
 
 -- what passes a limit is refused
-pub limit_refused : (p : CProgram) (e : LowerError) → IsWithin {A = Unit {0}} p (Err e) → IsLowered p (Err e)
+pub limit_refused : (p : CProgram) (e : LowerError) → IsWithin {A = ProgramCounts} p (Err e) → IsLowered p (Err e)
 limit_refused p (TooManyNodes count) h = h
 limit_refused p (TooManyValues name count) h = h
 limit_refused p Memory h = tt

@@ -4,7 +4,6 @@ ghost use Rattle.typed_tree.specs.TypedViews.{program_of};
 ghost use Rattle.lowering.specs.Lowers.{IsLowered};
 
 use lowering_code::program::lowered;
-use lowering_counts::built::is_built;
 use lowering_counts::error::LowerError;
 use lowering_counts::limits::within_limits;
 use lowering_keeps::laws::{code_is_formed, code_is_light, code_keeps};
@@ -22,10 +21,10 @@ pub fn lower(alloc: Global, program: &Program) -> Result<Mid, LowerError>
     code_keeps();
     code_is_light();
     code_is_formed();
-    within_limits(alloc, program)?;
-    if !is_built(program) {
+    let counts = within_limits(alloc, program)?;
+    if !counts.built {
         return Err(LowerError::NotBuilt);
     }
-    let mid = lowered(alloc, program)?;
+    let mid = lowered(alloc, program, counts.values.as_slice())?;
     Ok(mid)
 }

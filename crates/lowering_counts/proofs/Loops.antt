@@ -1,7 +1,7 @@
 -- Loops over a list that hold of what was seen, and of what is left.
 use Rattle.std.specs.Prelude.{drop, take, map, min, All, slice_get, ◌&&◌, if◌then◌else◌}
 use Rattle.std.specs.Option.{option_map}
-use Rattle.std.proofs.Common.{◌≡◌, ℕ, zero, suc, ◌+◌, ◌<◌, ◌≤◌, Bool, true, false, List, [], ◌∷◌, ◌++◌, length, get_or, Some, refl, sym, ap, ◌∙◌, subst, arith}
+use Rattle.std.proofs.Common.{◌≡◌, ℕ, zero, suc, ◌+◌, ◌<◌, ◌≤◌, Bool, true, false, List, [], ◌∷◌, ◌++◌, length, get_or, Some, refl, sym, ap, ◌∙◌, subst, append_assoc, arith}
 use Rattle.std.proofs.lemmas.List.Elements.{All-nil, All-cons, All-head, All-tail}
 use Rattle.std.proofs.lemmas.Option.{slice_get-map, slice_get_read}
 use Rattle.lowering_counts.proofs.Counted.{next_in}
@@ -49,3 +49,17 @@ one_coded m G code after x z ys i y total ea em lt is e h =
     pushed : {X Z : Type 0} (m : X → Z) (code : List X) (x : X) (rest : List Z) → map m (code ++ x ∷ []) ++ rest ≡ map m code ++ (m x ∷ rest)
     pushed m [] x rest = refl
     pushed m (c ∷ cs) x rest = ap (λ l. m c ∷ l) (pushed m cs x rest)
+
+-- The number that a list has at an index is that of the element there.
+pub number_at : {X Y : Type 0} (g : Y → ℕ) (v : X → Y) (ns : List ℕ) (xs : List X) (i : ℕ) (x : X) (d : ℕ) → ns ≡ map g (map v xs) → i < length xs → x ≡ get_or xs i x → get_or ns i d ≡ g (v x)
+number_at g v ns xs i x d e lt is = ap (λ l. get_or l i d) e ∙ of xs i x lt is
+  where
+    of : (xs : List _) (i : ℕ) (x : _) → i < length xs → x ≡ get_or xs i x → get_or (map g (map v xs)) i d ≡ g (v x)
+    of [] i x lt is = absurd (omega (arith, lt))
+    of (y ∷ ys) zero x lt is = ap (λ z. g (v z)) (sym is)
+    of (y ∷ ys) (suc i) x lt is = of ys i x (omega (arith, lt)) is
+
+-- One more number of a list that has one for each element.
+pub one_numbered : {Y : Type 0} (G : List Y → List ℕ) (numbers after : List ℕ) (n m : ℕ) (ys : List Y) (i : ℕ) (y : Y) (total : List ℕ) → after ≡ numbers ++ n ∷ [] → n ≡ m → i < length ys → y ≡ get_or ys i y → G (y ∷ drop (i + 1) ys) ≡ m ∷ G (drop (i + 1) ys) → numbers ++ G (drop i ys) ≡ total → after ++ G (drop (i + 1) ys) ≡ total
+one_numbered G numbers after n m ys i y total ea en lt is e h =
+    ap (λ l. l ++ G (drop (i + 1) ys)) ea ∙ append_assoc numbers (n ∷ []) (G (drop (i + 1) ys)) ∙ ap (λ z. numbers ++ (z ∷ G (drop (i + 1) ys))) en ∙ ap (λ l. numbers ++ l) (sym e ∙ sym (next_in G ys i y lt is)) ∙ h

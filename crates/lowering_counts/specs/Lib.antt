@@ -1,3 +1,4 @@
 pub mod Built
 pub mod Room
 pub mod Limits
+pub mod Counting

@@ -7,7 +7,7 @@ ghost use Rattle.rv_asm.specs.Parts.{AreParts};
 use crate::programs::{difference, moved};
 use bb_words::list::List;
 use flat_code::code::Flat;
-use flat_verify::layout::Layout;
+use flat_verify::global_blocks::GlobalBlocks;
 use flat_verify::verify::verify;
 use rv_asm::parts::Labelled;
 use rv_asm::resolve::resolve;
@@ -192,10 +192,10 @@ const MOVED: [u32; 98] = [
     0x0000_8067, // jalr x0, 0(x1)
 ];
 
-fn no_globals(alloc: Global) -> Layout
+fn no_globals(alloc: Global) -> GlobalBlocks
     ensures { result.globals ≡ [] }
 {
-    Layout {
+    GlobalBlocks {
         globals: List::new(alloc),
     }
 }

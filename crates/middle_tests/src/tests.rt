@@ -10,7 +10,7 @@ use bounds_instr::instrument::instrument;
 use c_words::place::{At, Name};
 use flat_code::code::{Flat, FlatFunction, FlatStep};
 use flat_verify::error::VerifyError;
-use flat_verify::layout::Layout;
+use flat_verify::global_blocks::GlobalBlocks;
 use flat_verify::verify::verify;
 use lowering::lower::lower;
 use std::alloc::{AllocError, Global};
@@ -88,10 +88,10 @@ fn goes_to_flat_code(rt: HostRuntime) -> Result<(), Fail> {
     Ok(())
 }
 
-fn no_globals(alloc: Global) -> Layout
+fn no_globals(alloc: Global) -> GlobalBlocks
     ensures { result.globals ≡ [] }
 {
-    Layout {
+    GlobalBlocks {
         globals: List::new(alloc),
     }
 }

@@ -15,7 +15,7 @@ use Rattle.rv_asm.specs.declared.parts.BranchOp.TheVariants as branch
 use Rattle.bb_words.specs.declared.kinds.ReportKind.TheVariants.{Bounds}
 use Rattle.std.proofs.Math.Dec.{eqb-suc-zero}
 use Rattle.std.specs.Prelude.{nat_eq, Bool}
-use Rattle.rv_selected.specs.Layout.{store}
+use Rattle.rv_selected.specs.Registers.{store}
 use Rattle.rv_selected.specs.Steps.{plains, fetch, held_after}
 use Rattle.rv_selected.specs.Checks.{unless_parts, find_block, find_offset, widen, mark_code, move_end, move_parts, count_code, touch_code, last_distance, span_parts, sequence_parts, sequence_labels}
 use Rattle.rv_selected.specs.Selection.{choice_parts, is_end, loop_parts, item_labels, items_labels, held_behind, item_parts, items_parts, zeros, parameters, functions_parts, function_parts, function_labels}

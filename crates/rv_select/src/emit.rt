@@ -4,7 +4,7 @@
 ghost use Rattle.std.specs.Prelude.{◌≡◌, ◌+◌, ◌<◌, ◌^◌, ◌++◌, ◌∷◌, [], OnOk, IfOk};
 ghost use Rattle.rv_asm.specs.declared.parts.Part.TheVariants.{Plain};
 ghost use Rattle.rv_asm.specs.Text.{upper_part, lower_part};
-ghost use Rattle.rv_selected.specs.Layout as layout;
+ghost use Rattle.rv_selected.specs.Registers as layout;
 ghost use Rattle.rv_selected.specs.Steps.{plains};
 
 use rv_asm::parts::Part;

@@ -10,7 +10,7 @@ use crate::checks::{put_branch, put_label};
 use crate::emit::{
     after, cell, frame_bytes, load, negative, put, put_all, put_constant, put_part, store,
 };
-use crate::items::{Setting, put_items};
+use crate::items::{InFunction, put_items};
 use crate::steps::{addi, put_call};
 use flat_code::code::FlatFunction;
 use rv_asm::parts::{BranchOp, Part};
@@ -133,7 +133,7 @@ fn put_function(
 {
     let zeroing = after(label)?;
     let inside = after(zeroing)?;
-    let setting = Setting {
+    let in_function = InFunction {
         exponent: g,
         back: label,
     };
@@ -141,7 +141,7 @@ fn put_function(
     put_enter(parts, k, function.line)?;
     put_frame(parts, zeroing, function.params, function.values)?;
     let steps = function.body.as_slice();
-    let next = put_items(alloc, &setting, None, &[], steps, parts, inside)?;
+    let next = put_items(alloc, &in_function, None, &[], steps, parts, inside)?;
     put(parts, addi(9, 0, 0))?;
     put_label(parts, label)?;
     put_returning(parts, k, function.line, function.values)?;

@@ -20,7 +20,7 @@ use std::alloc::{AllocError, Global};
 
 /// What the parts of a function's steps depend on.
 #[derive(Drop)]
-pub struct Setting {
+pub struct InFunction {
     /// The exponent of a slot.
     pub exponent: u8,
     /// The label of the function's end.
@@ -110,16 +110,16 @@ fn further_steps(g: u8, sequence: FlatSequence) -> usize
 #[cycle(items)]
 fn put_item(
     alloc: Global,
-    setting: &Setting,
+    in_function: &InFunction,
     known: Option<u32>,
     exits: &[u32],
     step: &FlatStep,
     parts: &mut Vec<Part>,
     label: u32,
 ) -> Result<u32, AllocError>
-    ensures parts { OnOk result (parts.new.items ≡ parts.old.items ++ selection.item_parts setting.now.exponent setting.now.back known exits.now label
-        (item_of setting.now.exponent (step_of step.now))) }
-    ensures next { IfOk result (λ next. next ≡ label + selection.item_labels (item_of setting.now.exponent (step_of step.now))) }
+    ensures parts { OnOk result (parts.new.items ≡ parts.old.items ++ selection.item_parts in_function.now.exponent in_function.now.back known exits.now label
+        (item_of in_function.now.exponent (step_of step.now))) }
+    ensures next { IfOk result (λ next. next ≡ label + selection.item_labels (item_of in_function.now.exponent (step_of step.now))) }
 {
     match step {
         FlatStep::If { cond, yes, no } => {
@@ -128,16 +128,16 @@ fn put_item(
             put_fetch(parts, known, *cond)?;
             let (yes, no) = (yes.as_slice(), no.as_slice());
             let mut first = Vec::new(alloc);
-            let middle = put_items(alloc, setting, None, exits, yes, &mut first, inside)?;
+            let middle = put_items(alloc, in_function, None, exits, yes, &mut first, inside)?;
             let mut second = Vec::new(alloc);
-            let next = put_items(alloc, setting, None, exits, no, &mut second, middle)?;
+            let next = put_items(alloc, in_function, None, exits, no, &mut second, middle)?;
             put_choice(parts, yes.is_empty(), no.is_empty(), label, &first, &second)?;
             Ok(next)
         }
         FlatStep::Block { body } => {
             let inside = after(label)?;
             let around = within(alloc, label, exits)?;
-            let next = put_items(alloc, setting, known, &around, body, parts, inside)?;
+            let next = put_items(alloc, in_function, known, &around, body, parts, inside)?;
             put_label(parts, label)?;
             Ok(next)
         }
@@ -146,7 +146,7 @@ fn put_item(
             let inside = after(end)?;
             let around = within(alloc, end, exits)?;
             put_label(parts, label)?;
-            let next = put_items(alloc, setting, None, &around, body, parts, inside)?;
+            let next = put_items(alloc, in_function, None, &around, body, parts, inside)?;
             put_back(parts, label, end)?;
             Ok(next)
         }
@@ -155,12 +155,19 @@ fn put_item(
             let inside = after(end)?;
             let around = within(alloc, end, exits)?;
             put_label(parts, label)?;
-            let next = put_items(alloc, setting, None, &around, body, parts, inside)?;
+            let next = put_items(alloc, in_function, None, &around, body, parts, inside)?;
             put_back(parts, label, end)?;
             Ok(next)
         }
         _ => {
-            put_step(parts, setting.exponent, setting.back, known, exits, step)?;
+            put_step(
+                parts,
+                in_function.exponent,
+                in_function.back,
+                known,
+                exits,
+                step,
+            )?;
             Ok(label)
         }
     }
@@ -179,16 +186,16 @@ fn put_back(parts: &mut Vec<Part>, label: u32, end: u32) -> Result<(), AllocErro
 #[cycle(items)]
 pub fn put_items(
     alloc: Global,
-    setting: &Setting,
+    in_function: &InFunction,
     known: Option<u32>,
     exits: &[u32],
     steps: &[FlatStep],
     parts: &mut Vec<Part>,
     label: u32,
 ) -> Result<u32, AllocError>
-    ensures parts { OnOk result (parts.new.items ≡ parts.old.items ++ selection.items_parts setting.now.exponent setting.now.back known exits.now label
-        (items_from setting.now.exponent 0 (steps_of steps.now))) }
-    ensures next { IfOk result (λ next. next ≡ label + selection.items_labels (items_from setting.now.exponent 0 (steps_of steps.now))) }
+    ensures parts { OnOk result (parts.new.items ≡ parts.old.items ++ selection.items_parts in_function.now.exponent in_function.now.back known exits.now label
+        (items_from in_function.now.exponent 0 (steps_of steps.now))) }
+    ensures next { IfOk result (λ next. next ≡ label + selection.items_labels (items_from in_function.now.exponent 0 (steps_of steps.now))) }
 {
     let mut skip: usize = 0;
     let mut held = known;
@@ -198,14 +205,14 @@ pub fn put_items(
             skip -= 1;
             continue;
         }
-        if let Some(sequence) = sequence_at(alloc, setting.exponent, &steps[i..])? {
-            put_sequence(parts, setting.exponent, next, sequence)?;
+        if let Some(sequence) = sequence_at(alloc, in_function.exponent, &steps[i..])? {
+            put_sequence(parts, in_function.exponent, next, sequence)?;
             next = after_sequence(next, sequence)?;
-            skip = further_steps(setting.exponent, sequence);
+            skip = further_steps(in_function.exponent, sequence);
             held = None;
             continue;
         }
-        next = put_item(alloc, setting, held, exits, step, parts, next)?;
+        next = put_item(alloc, in_function, held, exits, step, parts, next)?;
         held = held_after(held, step);
     }
     Ok(next)

@@ -1,7 +1,7 @@
 //! From flat code to parts of RV32IM code.
 //!
-//! `specs/Layout` says where things stand while selected code runs, `specs/Steps`, `specs/Checks` and `specs/Selection`
-//! which parts are selected, as a function on flat code. `select::select` gives these parts.
+//! `select::select` gives the parts that `rv_selected` defines: `steps`, `checks` and `items` those of steps, of the sequences
+//! that check pointers and of lists of steps, `functions` those of functions and of the start code.
 #![tactic(auto)]
 
 mod checks;

@@ -5,7 +5,7 @@ ghost use Rattle.std.specs.Prelude.{◌≡◌, ◌++◌, ◌∷◌, [], OnOk, sl
 ghost use Rattle.flat_code.specs.CodeViews.{step_of};
 ghost use Rattle.rv_asm.specs.declared.parts.Part.TheVariants.{Plain, Jump};
 ghost use Rattle.rv_code.specs.declared.instr.Instr.TheVariants.{Addi};
-ghost use Rattle.rv_selected.specs.Layout as layout;
+ghost use Rattle.rv_selected.specs.Registers as layout;
 ghost use Rattle.rv_selected.specs.Steps as code;
 ghost use Rattle.rv_selected.specs.Steps.{plains};
 

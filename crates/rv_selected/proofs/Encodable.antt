@@ -15,7 +15,7 @@ use Rattle.rv_code.specs.Formats.{Format, RType, IType, SType, BType, UType, JTy
 use Rattle.rv_code.specs.Code.{Fits, format_of}
 use Rattle.rv_code.specs.declared.instr.Instr.{Instr}
 use Rattle.rv_code.specs.declared.instr.Instr.TheVariants.{Lui, Addi, Andi, Slli, Srli, Add, Sub, And, Lbu, Ecall}
-use Rattle.rv_selected.specs.Layout.{cell, load, store, constant, is_short}
+use Rattle.rv_selected.specs.Registers.{cell, load, store, constant, is_short}
 use Rattle.rv_selected.specs.Steps.{fetch, operation, owner_code, look_code, read_code, write_code, kind_number, call_code, report_code, environment_arguments, number_code, same_code, arith_code, slot_code, looked_code, frame_code, loading_code, storing_code, checked_code, line_code, environment_code, arguments_code}
 
 -- ---- Lists of instructions

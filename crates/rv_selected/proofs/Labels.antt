@@ -13,7 +13,7 @@ use Rattle.rv_asm.specs.Parts.{times_in}
 use Rattle.rv_code.specs.declared.instr.Instr.{Instr}
 use Rattle.rv_code.specs.declared.instr.Instr.TheVariants.{Addi}
 use Rattle.rv_asm.specs.declared.parts.BranchOp.TheVariants as branch
-use Rattle.rv_selected.specs.Layout.{load, store, negative, frame_bytes}
+use Rattle.rv_selected.specs.Registers.{load, store, negative, frame_bytes}
 use Rattle.rv_selected.specs.Steps.{plains, fetch, step_code, step_parts}
 use Rattle.rv_selected.specs.Checks.{unless_parts, move_parts, load_parts, span_parts, sequence_parts, sequence_labels, last_distance}
 use Rattle.rv_selected.specs.Selection.{choice_parts, is_end, loop_parts, item_labels, items_labels, held_behind, item_parts, items_parts, zeros, zero_loop, zero_loop_if, parameters_if, frame_parts, enter_code, return_code, function_parts, function_labels, functions_parts, functions_labels, start_parts}

@@ -11,10 +11,10 @@ use Rattle.flat_code.specs.World.{Words, with_word as put_word}
 use Rattle.rv_asm.specs.Text.{upper_part, lower_part}
 use Rattle.rv_code.specs.declared.instr.Instr.{Instr}
 use Rattle.rv_code.specs.declared.instr.Instr.TheVariants.{Lui, Addi}
-use Rattle.rv_selected.specs.Layout.{cell, load, store, constant, is_short}
+use Rattle.rv_selected.specs.Registers.{cell, load, store, constant, is_short}
 use Rattle.rv_selected.specs.Steps.{fetch, held_after, operation, number_code, same_code, arith_code}
 use Rattle.rv_selected.specs.Straight.{Held, changed, with_register, with_word, does, does_all}
-use Rattle.rv_selected.specs.Follows.{IsKnown, Stands, Keeps, Leads, StepsLead}
+use Rattle.rv_selected.specs.Follows.{IsKnown, Stands, KeepsRegisters, Leads, StepsLead}
 
 -- ---- Lists and places
 
@@ -171,7 +171,7 @@ made_constant h n z lt = by_tests (is_short n) (n % 4096 == 0)
 
 -- a register is stored in the cell of a value
 finish : (values : ℕ) (known after : Option ℕ) (words : Words) (to value r : ℕ) (h g : Held) → values ≤ 255 → to < values → Stands values known words h → Quiet h g → g.register r ≡ value → IsKnown after (put_word words to value) g
-    → Stands values after (put_word words to value) (with_word (cell to) (g.register r) g) × Keeps values h (with_word (cell to) (g.register r) g)
+    → Stands values after (put_word words to value) (with_word (cell to) (g.register r) g) × KeepsRegisters values h (with_word (cell to) (g.register r) g)
 finish values known after words to value r h g few lt s q e k = (
   record {
     cells = λ v lv. ap (λ x. changed g.word (cell to) x (cell v)) e ∙ stored values words g.word to value v few lt lv (ap (λ w. w (cell v)) q.word ∙ s.cells v lv);
@@ -196,7 +196,7 @@ number_leads : (g values : ℕ) (known : Option ℕ) (words : Words) (to value :
 number_leads g values known words to value few lt fits = λ h are s. by_cases h s (cases_eq value 0)
   where
     by_cases : (h : Held) → Stands values known words h → (value ≡ 0) ⊎ (value ≡ 0 → ⊥)
-        → Stands values (if value == 0 then None else Some to) (put_word words to value) (does_all (if value == 0 then store 0 to ∷ [] else constant 5 value ++ store 5 to ∷ []) h) × Keeps values h (does_all (if value == 0 then store 0 to ∷ [] else constant 5 value ++ store 5 to ∷ []) h)
+        → Stands values (if value == 0 then None else Some to) (put_word words to value) (does_all (if value == 0 then store 0 to ∷ [] else constant 5 value ++ store 5 to ∷ []) h) × KeepsRegisters values h (does_all (if value == 0 then store 0 to ∷ [] else constant 5 value ++ store 5 to ∷ []) h)
     by_cases h s (inl is) = rw (eq-eqb value 0 is) (finish values known None words to value 0 h h few lt s (quiet_none h) (s.zero ∙ sym is) tt)
     by_cases h s (inr ne) =
         let m = made_constant h value s.zero fits in

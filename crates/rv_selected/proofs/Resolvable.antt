@@ -18,7 +18,7 @@ use Rattle.rv_asm.specs.declared.parts.Part.{Part}
 use Rattle.rv_asm.specs.declared.parts.Part.TheVariants.{Plain, Label, Branch, Jump}
 use Rattle.rv_asm.specs.Parts.{times_in, FitsPart, GoesOnce}
 use Rattle.rv_code.specs.declared.instr.Instr.TheVariants.{Lui, Addi, Jalr}
-use Rattle.rv_selected.specs.Layout.{cell, frame_bytes, negative, constant}
+use Rattle.rv_selected.specs.Registers.{cell, frame_bytes, negative, constant}
 use Rattle.rv_selected.specs.Steps.{call_code, step_parts}
 use Rattle.rv_selected.specs.Checks.{sequence_labels}
 use Rattle.rv_selected.specs.Selection.{choice_parts, is_end, loop_parts, item_labels, items_labels, held_behind, item_parts, items_parts, zeros, zero_loop, zero_loop_if, parameters, parameters_code, parameters_if, frame_parts, enter_code, leave_code, return_code, function_parts, function_labels, functions_labels, functions_parts, start_parts, selected}

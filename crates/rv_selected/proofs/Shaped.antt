@@ -19,7 +19,7 @@ use Rattle.rv_asm.specs.declared.parts.Part.{Part}
 use Rattle.rv_asm.specs.declared.parts.Part.TheVariants.{Plain, Label, Branch, Jump}
 use Rattle.rv_code.specs.declared.instr.Instr.{Instr}
 use Rattle.rv_code.specs.declared.instr.Instr.TheVariants.{Lui, Addi, Add, Sub, Lbu, Jalr}
-use Rattle.rv_selected.specs.Layout.{cell, frame_bytes, negative, load, store, constant, is_short}
+use Rattle.rv_selected.specs.Registers.{cell, frame_bytes, negative, load, store, constant, is_short}
 use Rattle.rv_selected.specs.Steps.{plains, fetch, operation, owner_code, look_code, read_code, write_code, call_code, report_code, environment_arguments, line_code, arguments_code, step_parts, label_out}
 use Rattle.rv_selected.specs.Checks.{find_block, find_base, mark_code, unless_parts, move_end, move_parts, load_begin, load_parts, touch_code, last_distance, span_parts, sequence_parts}
 use Rattle.rv_selected.specs.Selection.{choice_parts, is_end, loop_parts, item_labels, items_labels, held_behind, item_parts, items_parts, zeros, zero_loop, zero_loop_if, parameters, parameters_code, parameters_if, frame_parts, enter_code, leave_code, return_code, function_parts, function_labels, functions_parts, start_parts, selected}

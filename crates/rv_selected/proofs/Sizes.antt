@@ -17,7 +17,7 @@ use Rattle.rv_code.specs.declared.instr.Instr.{Instr}
 use Rattle.rv_asm.specs.Text.{upper_part, lower_part}
 use Rattle.marked_ptr.specs.Marked.{half_slot}
 use Rattle.rv_code.specs.declared.instr.Instr.TheVariants.{Lui, Addi, Add, Jalr}
-use Rattle.rv_selected.specs.Layout.{constant, is_short, load, store, negative, frame_bytes}
+use Rattle.rv_selected.specs.Registers.{constant, is_short, load, store, negative, frame_bytes}
 use Rattle.rv_selected.specs.Steps.{plains, fetch, operation, environment_arguments, arguments_code, number_code, frame_code, same_code, arith_code, slot_code, looked_code, loading_code, storing_code, checked_code, environment_code, call_code, step_parts}
 use Rattle.rv_selected.specs.Checks.{move_parts, load_parts, span_parts, sequence_parts, sequence_labels, find_offset, last_distance}
 use Rattle.rv_selected.specs.Selection.{choice_parts, is_end, loop_parts, item_labels, items_labels, held_behind, item_parts, items_parts, zeros, zero_loop, zero_loop_if, parameters, parameters_code, parameters_if, frame_parts, enter_code, leave_code, return_code, function_parts, function_labels, functions_parts, start_parts}

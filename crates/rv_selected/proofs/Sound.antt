@@ -19,7 +19,7 @@ use Rattle.rv_asm.specs.declared.parts.Part.TheVariants.{Plain, Label, Branch, J
 use Rattle.rv_code.specs.Code.{Fits}
 use Rattle.rv_code.specs.declared.instr.Instr.{Instr}
 use Rattle.rv_code.specs.declared.instr.Instr.TheVariants.{Addi, Slli, Srli, Add, Sub, Sll, Srl, Lw, Lbu}
-use Rattle.rv_selected.specs.Layout.{load}
+use Rattle.rv_selected.specs.Registers.{load}
 use Rattle.rv_selected.specs.Steps.{plains, step_parts, label_out}
 use Rattle.rv_selected.specs.Checks.{find_block, find_base, find_offset, widen, mark_code, unless_parts, move_end, move_parts, load_parts, last_distance, span_parts, sequence_parts, sequence_labels}
 use Rattle.rv_selected.specs.Words.{StepHasWords}

@@ -11,7 +11,7 @@ use Rattle.rv_asm.specs.declared.parts.Part.{Part}
 use Rattle.rv_asm.specs.declared.parts.Part.TheVariants.{Label, Branch}
 use Rattle.rv_code.specs.declared.instr.Instr.{Instr}
 use Rattle.rv_code.specs.declared.instr.Instr.TheVariants.{Lui, Addi, Slli, Srli, Add, Sub, Sll, Srl, Or, Lw, Lbu}
-use Rattle.rv_selected.specs.Layout.{load, store, constant}
+use Rattle.rv_selected.specs.Registers.{load, store, constant}
 use Rattle.rv_selected.specs.Steps.{plains, owner_code, look_code, report_code}
 
 -- x7 becomes the slot that owns the word p, and x13 the exponent of its block

@@ -5,7 +5,7 @@ use Rattle.bb_words.specs.declared.steps.ArithOp.{ArithOp}
 use Rattle.flat_code.specs.Code.{FStep}
 use Rattle.flat_code.specs.World.{Words, with_word}
 use Rattle.rv_code.specs.declared.instr.Instr.{Instr}
-use Rattle.rv_selected.specs.Layout.{cell}
+use Rattle.rv_selected.specs.Registers.{cell}
 use Rattle.rv_selected.specs.Steps.{held_after, step_code}
 use Rattle.rv_selected.specs.Straight.{Held, does_all}
 
@@ -21,7 +21,7 @@ pub record Stands (values : ℕ) (known : Option ℕ) (words : Words) (h : Held)
   pub zero : h.register 0 ≡ 0
 
 -- Registers other than x5 and x6 stay, and so do the words of the control frame that hold no value: the place to return to.
-pub record Keeps (values : ℕ) (old new : Held) : Type 0 where
+pub record KeepsRegisters (values : ℕ) (old new : Held) : Type 0 where
   pub registers : (r : ℕ) → r ≢ 5 → r ≢ 6 → new.register r ≡ old.register r
   pub others : (o : ℕ) → ((v : ℕ) → v < values → o ≢ cell v) → new.word o ≡ old.word o
 
@@ -29,7 +29,7 @@ pub record Keeps (values : ℕ) (old new : Held) : Type 0 where
 abbrev pub Leads : (values : ℕ) → (known after : Option ℕ) → (old new : Words) → List Instr → Type 0
 Leads values known after old new code =
     (h : Held) → ((v : ℕ) → v < values → old v < 2 ^ 32) → Stands values known old h → Stands values after new (does_all code h)
-    × Keeps values h (does_all code h)
+    × KeepsRegisters values h (does_all code h)
 
 -- The instructions of steps that compute do to the words of the control frame what flat code does to values.
 pub record StepsLead : Type 0 where

@@ -1,4 +1,4 @@
-pub mod Layout
+pub mod Registers
 pub mod Steps
 pub mod Checks
 pub mod Selection

@@ -12,7 +12,7 @@ use Rattle.rv_asm.specs.declared.parts.Part.TheVariants.{Plain, Label, Branch, J
 use Rattle.rv_code.specs.declared.instr.Instr.{Instr}
 use Rattle.rv_code.specs.declared.instr.Instr.TheVariants.{Lui, Addi, Jalr}
 use Rattle.size_table.specs.declared.memory_map.TheConstants.{TABLE_START, HEAP_START}
-use Rattle.rv_selected.specs.Layout.{cell, frame_bytes, negative, load, store, constant}
+use Rattle.rv_selected.specs.Registers.{cell, frame_bytes, negative, load, store, constant}
 use Rattle.rv_selected.specs.Steps.{plains, fetch, held_after, call_code, step_parts}
 use Rattle.rv_selected.specs.Checks.{sequence_parts, sequence_labels}
 

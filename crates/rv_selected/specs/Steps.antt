@@ -13,7 +13,7 @@ use Rattle.rv_asm.specs.declared.parts.Part.TheVariants.{Plain, Jump}
 use Rattle.rv_code.specs.declared.instr.Instr.{Instr}
 use Rattle.rv_code.specs.declared.instr.Instr.TheVariants.{Lui, Addi, Xori, Andi, Sltiu, Slli, Srli, Add, Sub, Mul, Mulh, Mulhsu, Mulhu, Div, Divu}
 use Rattle.rv_code.specs.declared.instr.Instr.TheVariants.{Rem, Remu, Sll, Srl, Sra, Slt, Sltu, And, Or, Xor, Lw, Lh, Lhu, Lbu, Sw, Sh, Sb, Ecall}
-use Rattle.rv_selected.specs.Layout.{load, store, constant, is_short}
+use Rattle.rv_selected.specs.Registers.{load, store, constant, is_short}
 
 -- instructions as parts
 abbrev pub plains : List Instr → List Part

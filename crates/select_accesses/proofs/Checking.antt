@@ -13,9 +13,9 @@ use Rattle.rv_code.specs.declared.instr.Instr.TheVariants.{Add}
 use Rattle.rv_machine.specs.State.{Core, register_of, next}
 use Rattle.rv_machine.specs.Instruction.{Goes}
 use Rattle.rv_machine.specs.Machine.{step}
-use Rattle.rv_selected.specs.Layout.{load}
+use Rattle.rv_selected.specs.Registers.{load}
 use Rattle.rv_selected.specs.Steps.{plains, fetch, checked_code}
-use Rattle.select_scope.specs.Scene.{Scene, IsScene, after, Frame, HasRoom, HoldsFrame, Agrees, IsKept, At}
+use Rattle.select_scope.specs.Loaded.{Loaded, IsLoaded, after, Frame, HasRoom, HoldsFrame, Agrees, IsKept, At}
 use Rattle.select_straight.proofs.Straight.{step_acts}
 use Rattle.select_scope.proofs.Agree.{Laws}
 use Rattle.select_scope.proofs.Reach.{Arrives}
@@ -24,7 +24,7 @@ use Rattle.select_scope.proofs.Pieces.{plains_split, plains_join}
 use Rattle.select_straight.proofs.Asking.{SaysAs, saying, agrees_more}
 use Rattle.select_accesses.proofs.Storing.{both}
 
-module _ (laws : Laws) (s : Scene) (scene : IsScene s) (f : Frame) (room : HasRoom f) where
+module _ (laws : Laws) (s : Loaded) (scene : IsLoaded s) (f : Frame) (room : HasRoom f) where
   abbrev core_at : ℕ → Core
   core_at k = (after s k).machine.core
 

@@ -7,9 +7,9 @@ use Rattle.flat_code.specs.Run.{goes, ends}
 use Rattle.rv_asm.specs.Runs.{PartsAt}
 use Rattle.rv_code.specs.declared.instr.Instr.TheVariants.{Addi, Add}
 use Rattle.rv_machine.specs.State.{Core, register_of}
-use Rattle.rv_selected.specs.Layout.{cell, store, constant, is_short}
+use Rattle.rv_selected.specs.Registers.{cell, store, constant, is_short}
 use Rattle.rv_selected.specs.Steps.{plains, frame_code}
-use Rattle.select_scope.specs.Scene.{Scene, IsScene, after, Frame, HasRoom, At}
+use Rattle.select_scope.specs.Loaded.{Loaded, IsLoaded, after, Frame, HasRoom, At}
 use Rattle.select_scope.proofs.Agree.{Laws, spent, itself}
 use Rattle.select_scope.proofs.Reach.{Arrives, Around, Comes, forget}
 use Rattle.select_scope.proofs.Moves.{apart, at_later, held, row}
@@ -17,7 +17,7 @@ use Rattle.select_scope.proofs.Pieces.{is_set, plains_split, plains_join}
 use Rattle.select_straight.proofs.Raw.{constant_gives, constant_straight_at}
 use Rattle.select_accesses.proofs.Loading.{keeps_on}
 
-module _ (laws : Laws) (s : Scene) (scene : IsScene s) (f : Frame) (room : HasRoom f) where
+module _ (laws : Laws) (s : Loaded) (scene : IsLoaded s) (f : Frame) (room : HasRoom f) where
   abbrev core_at : ℕ → Core
   core_at k = (after s k).machine.core
 

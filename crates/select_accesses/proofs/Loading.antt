@@ -23,10 +23,10 @@ use Rattle.rv_machine.specs.State.{Core, register_of, gives, halted}
 use Rattle.rv_machine.specs.Instruction.{Goes, Traps, access_trap, unless_trap, effect}
 use Rattle.rv_machine.specs.Environment.{with_machine}
 use Rattle.rv_machine.specs.Machine.{step}
-use Rattle.rv_selected.specs.Layout.{cell, store}
+use Rattle.rv_selected.specs.Registers.{cell, store}
 use Rattle.rv_selected.specs.Steps.{plains, fetch, read_code, loading_code}
 use Rattle.select_scope.specs.InReach.{IsReached}
-use Rattle.select_scope.specs.Scene.{Scene, IsScene, after, Frame, HasRoom, HoldsFrame, Agrees, IsKept, At}
+use Rattle.select_scope.specs.Loaded.{Loaded, IsLoaded, after, Frame, HasRoom, HoldsFrame, Agrees, IsKept, At}
 use Rattle.select_straight.proofs.Straight.{step_acts}
 use Rattle.select_scope.proofs.Agree.{Laws, itself}
 use Rattle.select_scope.proofs.Reach.{Finishes, Around, Comes, control_of}
@@ -36,7 +36,7 @@ use Rattle.select_steps.proofs.Steps.{values_small, fetches}
 use Rattle.select_straight.proofs.Asking.{SaysAs, saying, agrees_more}
 use Rattle.select_scope.proofs.Accesses.{traps_alike, made_within, all_within, machine_reads, read_effect, read_event, same_read}
 
-module _ (laws : Laws) (s : Scene) (scene : IsScene s) (f : Frame) (room : HasRoom f) where
+module _ (laws : Laws) (s : Loaded) (scene : IsLoaded s) (f : Frame) (room : HasRoom f) where
   abbrev core_at : ℕ → Core
   core_at k = (after s k).machine.core
 

@@ -16,9 +16,9 @@ use Rattle.rv_code.specs.declared.instr.Instr.TheVariants.{Add, Lbu}
 use Rattle.rv_machine.specs.State.{Core, register_of, gives}
 use Rattle.rv_machine.specs.Instruction.{Goes, access_trap, unless_trap, effect}
 use Rattle.rv_machine.specs.Machine.{step}
-use Rattle.rv_selected.specs.Layout.{store}
+use Rattle.rv_selected.specs.Registers.{store}
 use Rattle.rv_selected.specs.Steps.{plains, fetch, look_code, looked_code}
-use Rattle.select_scope.specs.Scene.{Scene, IsScene, after, Frame, HasRoom, HoldsFrame, Agrees, At}
+use Rattle.select_scope.specs.Loaded.{Loaded, IsLoaded, after, Frame, HasRoom, HoldsFrame, Agrees, At}
 use Rattle.select_straight.proofs.Straight.{step_acts}
 use Rattle.select_scope.proofs.Agree.{Laws, AreUnnoticed, itself, agrees_gone}
 use Rattle.select_scope.proofs.Reach.{Around, Comes}
@@ -41,7 +41,7 @@ look_unnoticed pc at low high = record {
   stay = λ places. refl;
 }
 
-module _ (laws : Laws) (s : Scene) (scene : IsScene s) (f : Frame) (room : HasRoom f) where
+module _ (laws : Laws) (s : Loaded) (scene : IsLoaded s) (f : Frame) (room : HasRoom f) where
   abbrev core_at : ℕ → Core
   core_at k = (after s k).machine.core
 

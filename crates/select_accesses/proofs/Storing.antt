@@ -20,10 +20,10 @@ use Rattle.rv_asm.specs.Runs.{PartAt, PartsAt, gone}
 use Rattle.rv_machine.specs.State.{Core, register_of, next, with_memory}
 use Rattle.rv_machine.specs.Instruction.{Goes, Traps, access_trap, unless_trap, effect}
 use Rattle.rv_machine.specs.Machine.{step}
-use Rattle.rv_selected.specs.Layout.{cell, load}
+use Rattle.rv_selected.specs.Registers.{cell, load}
 use Rattle.rv_selected.specs.Steps.{plains, fetch, write_code, storing_code}
 use Rattle.select_scope.specs.InReach.{IsReached}
-use Rattle.select_scope.specs.Scene.{Scene, IsScene, after, Frame, HasRoom, HoldsFrame, Agrees, IsKept, At}
+use Rattle.select_scope.specs.Loaded.{Loaded, IsLoaded, after, Frame, HasRoom, HoldsFrame, Agrees, IsKept, At}
 use Rattle.select_straight.proofs.Straight.{step_acts, same_word, memory_long}
 use Rattle.select_scope.proofs.Agree.{Laws, itself}
 use Rattle.select_scope.proofs.Reach.{Around, Comes}
@@ -35,7 +35,7 @@ use Rattle.select_scope.proofs.Accesses.{traps_alike, made_within, all_within}
 use Rattle.select_scope.proofs.Writes.{written_same, machine_writes, write_effect, write_event, same_bytes, how_many}
 use Rattle.select_accesses.proofs.Loading.{says_access, trapped_so}
 
-module _ (laws : Laws) (s : Scene) (scene : IsScene s) (f : Frame) (room : HasRoom f) where
+module _ (laws : Laws) (s : Loaded) (scene : IsLoaded s) (f : Frame) (room : HasRoom f) where
   abbrev core_at : ℕ → Core
   core_at k = (after s k).machine.core
 

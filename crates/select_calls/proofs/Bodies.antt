@@ -13,14 +13,14 @@ use Rattle.rv_asm.specs.declared.parts.Part.TheVariants.{Plain, Label}
 use Rattle.rv_asm.specs.Runs.{IsAt, PartsAt}
 use Rattle.rv_code.specs.declared.instr.Instr.TheVariants.{Addi}
 use Rattle.rv_machine.specs.State.{Core, register_of}
-use Rattle.rv_selected.specs.Layout.{cell}
+use Rattle.rv_selected.specs.Registers.{cell}
 use Rattle.rv_selected.specs.Selection.{frame_parts, items_parts, items_labels, return_code}
 use Rattle.rv_selected.specs.Steps.{plains}
 use Rattle.size_table.specs.declared.memory_map.TheConstants.{HEAP_START}
 use Rattle.size_table.specs.Memory.{word_at}
 use Rattle.select_scope.specs.Fits.{FitItems, FitsFunction, params_of}
 use Rattle.select_scope.specs.InReach.{reached}
-use Rattle.select_scope.specs.Scene.{Scene, IsScene, after, Frame, edge, HasRoom, Agrees, IsKept, At}
+use Rattle.select_scope.specs.Loaded.{Loaded, IsLoaded, after, Frame, edge, HasRoom, Agrees, IsKept, At}
 use Rattle.select_scope.proofs.Agree.{Laws, itself}
 use Rattle.select_scope.proofs.Reach.{Comes, ends_from}
 use Rattle.select_scope.proofs.Moves.{cell_is, row}
@@ -37,7 +37,7 @@ none_given [] v le = refl
 none_given (x ∷ xs) zero le = absurd (omega (arith, le))
 none_given (x ∷ xs) (suc v) le = none_given xs v (omega (arith, le))
 
-module _ (laws : Laws) (s : Scene) (scene : IsScene s) (functions : List FFunction) (m q : ℕ) (deeper : Calls) (inside : (function : ℕ) → (args : List ℕ) → FPoint → Type 0) (less : q ≤ m) (runs : CallsRun s functions q deeper inside)
+module _ (laws : Laws) (s : Loaded) (scene : IsLoaded s) (functions : List FFunction) (m q : ℕ) (deeper : Calls) (inside : (function : ℕ) → (args : List ℕ) → FPoint → Type 0) (less : q ≤ m) (runs : CallsRun s functions q deeper inside)
     (values_fit : (number : ℕ) (fn : FFunction) → slice_get functions number ≡ Some fn → fn.values ≤ 255) (items_are : (steps : FSteps) → all_steps 4 (items_of 4 steps) ≡ steps) where
   abbrev params : ℕ → Option ℕ
   params n = params_of (slice_get functions n)

@@ -17,12 +17,12 @@ use Rattle.flat_code.specs.Run.{Calls, act}
 use Rattle.rv_asm.specs.declared.parts.Part.TheVariants.{Jump}
 use Rattle.rv_asm.specs.Runs.{IsAt, PartAt, PartsAt, at_place, gone}
 use Rattle.rv_machine.specs.State.{register_of, set_register}
-use Rattle.rv_selected.specs.Layout.{cell, load, store}
+use Rattle.rv_selected.specs.Registers.{cell, load, store}
 use Rattle.rv_selected.specs.Steps.{plains, arguments_code, call_parts}
 use Rattle.rv_selected.specs.Straight.{Held, with_register, does_all, AreStraight}
 use Rattle.flat_landing.specs.Shared.{shared}
 use Rattle.select_scope.specs.Fits.{AreValues, params_of}
-use Rattle.select_scope.specs.Scene.{Scene, IsScene, after, Frame, edge, HasRoom, Agrees, IsKept, At}
+use Rattle.select_scope.specs.Loaded.{Loaded, IsLoaded, after, Frame, edge, HasRoom, Agrees, IsKept, At}
 use Rattle.select_straight.proofs.Straight.{same_word}
 use Rattle.select_scope.proofs.Agree.{Laws, spent}
 use Rattle.select_scope.proofs.Reach.{Around, Comes, Ends, ends_from}
@@ -35,7 +35,7 @@ use Rattle.select_items.proofs.Items.{CallsFollow}
 
 -- After k instructions a function was called: x2 is at the end of the frame that it will have, x1 has the place to return to,
 -- and the registers from x18 on have the arguments.
-pub record IsCalled (s : Scene) (f : Frame) (function : ℕ) (args : List ℕ) (w : FWorld) (k : ℕ) : Type 0 where
+pub record IsCalled (s : Loaded) (f : Frame) (function : ℕ) (args : List ℕ) (w : FWorld) (k : ℕ) : Type 0 where
   pub at : IsAt s.text (s.labels function) (after s k)
   pub base : register_of (after s k).machine.core 2 ≡ edge f
   pub from : register_of (after s k).machine.core 1 ≡ f.back
@@ -48,7 +48,7 @@ abbrev pub returned_to : (places : List ℕ) → Frame → Frame
 returned_to places f = record f { places = places }
 
 -- It has returned, with a word in x9.
-pub record Answered (s : Scene) (f : Frame) (places : List ℕ) (word : ℕ) (w : FWorld) (k t : ℕ) : Type 0 where
+pub record Answered (s : Loaded) (f : Frame) (places : List ℕ) (word : ℕ) (w : FWorld) (k t : ℕ) : Type 0 where
   pub count : ℕ
   pub later : k ≤ count
   pub within : count + t ≤ k + w.time
@@ -59,7 +59,7 @@ pub record Answered (s : Scene) (f : Frame) (places : List ℕ) (word : ℕ) (w 
   pub kept : IsKept s w.told
 
 -- where a call comes to, whose caller has these words
-abbrev pub CallComes : Scene → Frame → (places : List ℕ) → Words → (q k t : ℕ) → Run ℕ → Type 0
+abbrev pub CallComes : Loaded → Frame → (places : List ℕ) → Words → (q k t : ℕ) → Run ℕ → Type 0
 CallComes s f places words q k t (Answer.Goes word u) = (u.words ≡ words) × Answered s f places word u.world k t
 CallComes s f places words q k t (Answer.Ends ending u) = Ends s ending u q k t
 
@@ -78,7 +78,7 @@ abbrev pub HasTime : FWorld → (k t : ℕ) → Type 0
 HasTime w k t = (k ≤ w.time) × (t ≤ w.time) × (nat_le MOST_CALLS w.depth ≡ true → (k + 7 ≤ w.time) × (t + 7 ≤ w.time))
 
 -- the calls of functions are followed
-pub record CallsRun (s : Scene) (functions : List FFunction) (q : ℕ) (call : Calls) (inside : (function : ℕ) → (args : List ℕ) → FPoint → Type 0) : Type 0 where
+pub record CallsRun (s : Loaded) (functions : List FFunction) (q : ℕ) (call : Calls) (inside : (function : ℕ) → (args : List ℕ) → FPoint → Type 0) : Type 0 where
   pub run : (f : Frame) (number : ℕ) (fn : FFunction) (places args : List ℕ) (u : FPoint) (k t : ℕ) → slice_get functions number ≡ Some fn → length args ≡ fn.params
       → IsCallee f fn places → HasTime u.world k t → inside number args u → IsCalled s f number args u.world k → CallComes s f places u.words q k t (call number args u)
 
@@ -144,7 +144,7 @@ found (Some fn) n e = (fn, refl, let q : fn.params ≡ n = cc in q)
 
 -- ---- The step of a call
 
-module _ (laws : Laws) (s : Scene) (scene : IsScene s) (f : Frame) (room : HasRoom f) (functions : List FFunction) where
+module _ (laws : Laws) (s : Loaded) (scene : IsLoaded s) (f : Frame) (room : HasRoom f) (functions : List FFunction) where
   -- the frame of what is called, after k instructions
   callee : (fn : FFunction) (back k : ℕ) → Frame
   callee fn back k = record {

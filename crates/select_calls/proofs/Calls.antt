@@ -12,7 +12,7 @@ use Rattle.flat_discipline.specs.Comes.{nothing, InLibrary, InDefined, InOne, In
 use Rattle.flat_discipline.specs.Items.{all_steps, items_of}
 use Rattle.select_scope.specs.Fits.{FitsFunction, params_of}
 use Rattle.select_scope.specs.InReach.{in_reach}
-use Rattle.select_scope.specs.Scene.{Scene, IsScene, after, Frame}
+use Rattle.select_scope.specs.Loaded.{Loaded, IsLoaded, after, Frame}
 use Rattle.select_scope.proofs.Agree.{Laws}
 use Rattle.select_scope.proofs.Reach.{GoesOn, control_of}
 use Rattle.select_calls.proofs.Calling.{IsCalled, CallComes, IsCallee, HasTime, CallsRun}
@@ -20,7 +20,7 @@ use Rattle.select_calls.proofs.Functions.{FunctionAt}
 use Rattle.select_calls.proofs.Followed.{function_runs}
 
 -- a call where flat code is cut: the machine goes on
-cut_here : (s : Scene) (f : Frame) (number : ℕ) (args : List ℕ) (u : FPoint) (k : ℕ) → IsCalled s f number args u.world k → GoesOn s u 0 k
+cut_here : (s : Loaded) (f : Frame) (number : ℕ) (args : List ℕ) (u : FPoint) (k : ℕ) → IsCalled s f number args u.world k → GoesOn s u 0 k
 cut_here s f number args u k called =
     record { count = k; later = omega arith; running = called.at.running; said = called.agrees.said; control = control_of s f u.world (after s k) called.agrees; kept = called.kept }
 
@@ -28,10 +28,10 @@ cut_here s f number args u k called =
 abbrev unmade : (function : ℕ) → (args : List ℕ) → FPoint → Type 0
 unmade function args u = Unit {0}
 
-none_run : (s : Scene) (functions : List FFunction) → CallsRun s functions 0 no_calls unmade
+none_run : (s : Loaded) (functions : List FFunction) → CallsRun s functions 0 no_calls unmade
 none_run s functions = record { run = λ f number fn places args u k t is given callee time reach called. cut_here s f number args u k called }
 
-module _ (laws : Laws) (s : Scene) (scene : IsScene s) (functions : List FFunction) (m : ℕ)
+module _ (laws : Laws) (s : Loaded) (scene : IsLoaded s) (functions : List FFunction) (m : ℕ)
     (stand : (number : ℕ) (fn : FFunction) → slice_get functions number ≡ Some fn → FunctionAt s scene number fn)
     (fit : (number : ℕ) (fn : FFunction) → slice_get functions number ≡ Some fn → FitsFunction (λ n. params_of (slice_get functions n)) number fn)
     (items_are : (steps : FSteps) → all_steps 4 (items_of 4 steps) ≡ steps) where

@@ -19,11 +19,11 @@ use Rattle.rv_machine.specs.Frames.{Entering, Leaving, enter, leave, refused, en
 use Rattle.rv_machine.specs.Instruction.{Goes}
 use Rattle.rv_machine.specs.Environment.{World, telling, enters, enters_by, enter_events, made_event, leaves, leaves_by, leave_events, ended_event, calls}
 use Rattle.rv_machine.specs.Machine.{step}
-use Rattle.rv_selected.specs.Layout.{constant}
+use Rattle.rv_selected.specs.Registers.{constant}
 use Rattle.rv_selected.specs.Steps.{plains}
 use Rattle.flat_landing.specs.Shared.{shared}
 use Rattle.select_scope.specs.Frame.{IsFrameAt}
-use Rattle.select_scope.specs.Scene.{Scene, IsScene, after, Frame, edge, held_of, Agrees}
+use Rattle.select_scope.specs.Loaded.{Loaded, IsLoaded, after, Frame, edge, held_of, Agrees}
 use Rattle.select_straight.proofs.Straight.{step_acts}
 use Rattle.select_scope.proofs.Agree.{Laws}
 use Rattle.select_scope.proofs.Moves.{apart, one_step}
@@ -78,7 +78,7 @@ pub has_left : (k back : ℕ) (frames : Frames) (memory : List ℕ) → leave (S
 unfolding leave
 has_left k back frames memory = rw (eq-eqb k k refl) refl
 
-module _ (laws : Laws) (s : Scene) (scene : IsScene s) where
+module _ (laws : Laws) (s : Loaded) (scene : IsLoaded s) where
   -- ---- Constants
 
   -- a register has become a number

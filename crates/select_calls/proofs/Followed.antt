@@ -23,13 +23,13 @@ use Rattle.rv_machine.specs.declared.stop.Halt.TheVariants.{Reported}
 use Rattle.rv_machine.specs.State.{Core, Frames, register_of}
 use Rattle.rv_machine.specs.Frames.{refused, entered_at, stack_under}
 use Rattle.rv_machine.specs.Environment.{World}
-use Rattle.rv_selected.specs.Layout.{constant}
+use Rattle.rv_selected.specs.Registers.{constant}
 use Rattle.rv_selected.specs.Selection.{frame_parts, items_parts, items_labels, enter_code, return_code}
 use Rattle.rv_selected.specs.Steps.{plains}
 use Rattle.select_scope.specs.Frame.{IsFrameAt}
 use Rattle.select_scope.specs.Fits.{FitsFunction, params_of}
 use Rattle.select_scope.specs.InReach.{reached, in_reach}
-use Rattle.select_scope.specs.Scene.{Scene, IsScene, after, Frame, edge, Agrees}
+use Rattle.select_scope.specs.Loaded.{Loaded, IsLoaded, after, Frame, edge, Agrees}
 use Rattle.select_scope.proofs.Agree.{Laws, spent, agrees_later}
 use Rattle.select_scope.proofs.Moves.{apart}
 use Rattle.select_scope.proofs.Pieces.{parts_split, plains_split, plains_join}
@@ -39,7 +39,7 @@ use Rattle.select_calls.proofs.Entering.{after_enter, enters_so, too_deep, no_ro
 use Rattle.select_calls.proofs.Functions.{FunctionAt, Ready, prepares, refuses, running}
 use Rattle.select_calls.proofs.Bodies.{entered_runs}
 
-module _ (laws : Laws) (s : Scene) (scene : IsScene s) (functions : List FFunction) (m q : ℕ) (deeper : Calls) (inside : (function : ℕ) → (args : List ℕ) → FPoint → Type 0) (less : q ≤ m) (runs : CallsRun s functions q deeper inside)
+module _ (laws : Laws) (s : Loaded) (scene : IsLoaded s) (functions : List FFunction) (m q : ℕ) (deeper : Calls) (inside : (function : ℕ) → (args : List ℕ) → FPoint → Type 0) (less : q ≤ m) (runs : CallsRun s functions q deeper inside)
     (values_fit : (number : ℕ) (fn : FFunction) → slice_get functions number ≡ Some fn → fn.values ≤ 255) (items_are : (steps : FSteps) → all_steps 4 (items_of 4 steps) ≡ steps) where
   abbrev core : ℕ → Core
   core k = core_at laws s scene k

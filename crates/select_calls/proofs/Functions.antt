@@ -25,12 +25,12 @@ use Rattle.rv_machine.specs.Instruction.{Goes, Traps, effect, event_of, even, ju
 use Rattle.bb_words.specs.declared.kinds.TrapKind.TheVariants.{Fetch}
 use Rattle.rv_machine.specs.Environment.{World, calls}
 use Rattle.rv_machine.specs.Machine.{step}
-use Rattle.rv_selected.specs.Layout.{frame_bytes, constant, load}
+use Rattle.rv_selected.specs.Registers.{frame_bytes, constant, load}
 use Rattle.rv_selected.specs.Selection.{leave_code, return_code, function_parts, function_labels}
 use Rattle.rv_selected.specs.Steps.{plains}
 use Rattle.flat_landing.specs.Shared.{shared}
 use Rattle.select_scope.specs.Frame.{IsFrameAt}
-use Rattle.select_scope.specs.Scene.{Scene, IsScene, after, Frame, edge, held_of, Agrees, IsKept, At}
+use Rattle.select_scope.specs.Loaded.{Loaded, IsLoaded, after, Frame, edge, held_of, Agrees, IsKept, At}
 use Rattle.select_straight.proofs.Straight.{step_acts}
 use Rattle.select_scope.proofs.Agree.{Laws}
 use Rattle.select_scope.proofs.Reach.{Finishes, control_of}
@@ -43,7 +43,7 @@ use Rattle.select_calls.proofs.Entering.{after_leave, leaves_so, has_left, sets,
 use Rattle.select_straight.proofs.Asking.{asks}
 
 -- a function stands at its label
-pub record FunctionAt (s : Scene) (scene : IsScene s) (number : ℕ) (fn : FFunction) : Type 0 where
+pub record FunctionAt (s : Loaded) (scene : IsLoaded s) (number : ℕ) (fn : FFunction) : Type 0 where
   pub first : ℕ
   pub from : ℕ
   pub to : ℕ
@@ -52,7 +52,7 @@ pub record FunctionAt (s : Scene) (scene : IsScene s) (number : ℕ) (fn : FFunc
   pub own : number < scene.count
   pub layout : slice_get s.frames number ≡ Some []
 
-module _ (laws : Laws) (s : Scene) (scene : IsScene s) (f : Frame) where
+module _ (laws : Laws) (s : Loaded) (scene : IsLoaded s) (f : Frame) where
   abbrev core : ℕ → Core
   core k = core_at laws s scene k
 

@@ -11,12 +11,12 @@ use Rattle.rv_asm.specs.declared.parts.Part.TheVariants.{Plain, Label, Branch}
 use Rattle.rv_asm.specs.Runs.{IsAt, PartAt, PartsAt, is_taken}
 use Rattle.rv_code.specs.declared.instr.Instr.TheVariants.{Addi}
 use Rattle.rv_machine.specs.State.{register_of}
-use Rattle.rv_selected.specs.Layout.{cell, frame_bytes, negative, store}
+use Rattle.rv_selected.specs.Registers.{cell, frame_bytes, negative, store}
 use Rattle.rv_selected.specs.Selection.{zeros, zero_loop, zero_loop_if, parameters, parameters_code, parameters_if, frame_parts}
 use Rattle.rv_selected.specs.Steps.{plains}
 use Rattle.rv_selected.specs.Straight.{Held, with_word, does_all}
 use Rattle.select_scope.specs.Frame.{IsFrameAt}
-use Rattle.select_scope.specs.Scene.{Scene, IsScene, after, Frame, edge, held_of, Agrees}
+use Rattle.select_scope.specs.Loaded.{Loaded, IsLoaded, after, Frame, edge, held_of, Agrees}
 use Rattle.select_straight.proofs.Straight.{same_word}
 use Rattle.select_scope.proofs.Agree.{Laws}
 use Rattle.select_scope.proofs.Moves.{apart, cell_is}
@@ -30,7 +30,7 @@ pub record HasPlace (f : Frame) : Type 0 where
   pub aligned : f.sp % 4 ≡ 0
   pub few : f.values ≤ 255
 
-module _ (laws : Laws) (s : Scene) (scene : IsScene s) (f : Frame) (w : FWorld) (place : HasPlace f) (args : ℕ → ℕ) where
+module _ (laws : Laws) (s : Loaded) (scene : IsLoaded s) (f : Frame) (w : FWorld) (place : HasPlace f) (args : ℕ → ℕ) where
   -- After k instructions x2 is p, n words from there on are zero, and the place to return to is behind them.
   pub record Building (b p n k : ℕ) : Type 0 where
     pub at : IsAt s.text b (after s k)

@@ -15,7 +15,7 @@ use Rattle.rv_selected.specs.Selection.{item_labels, items_labels, is_end, choic
 use Rattle.rv_selected.specs.Steps.{plains, fetch, held_after, slot_code, step_parts, call_parts}
 use Rattle.select_scope.specs.Fits.{AreValues, FitsStep, FitItems}
 use Rattle.select_scope.specs.InReach.{IsInReach, reached}
-use Rattle.select_scope.specs.Scene.{Scene, IsScene, Frame, HasRoom, At}
+use Rattle.select_scope.specs.Loaded.{Loaded, IsLoaded, Frame, HasRoom, At}
 use Rattle.select_scope.proofs.Agree.{Laws, spent}
 use Rattle.select_scope.proofs.Reach.{Arrives, Around, Comes, comes_on, comes_from, forget, then_comes, block_comes}
 use Rattle.select_scope.proofs.Moves.{at_later}
@@ -35,13 +35,13 @@ unfolding inner_turns
 more_inner m = omega arith
 
 -- A call is followed: its arguments, its function, and its result.
-pub record CallsFollow (s : Scene) (f : Frame) (g m frame q : ℕ) (call : Calls) (inside : (function : ℕ) → (args : List ℕ) → FPoint → Type 0) (params : ℕ → Option ℕ) : Type 0 where
+pub record CallsFollow (s : Loaded) (f : Frame) (g m frame q : ℕ) (call : Calls) (inside : (function : ℕ) → (args : List ℕ) → FPoint → Type 0) (params : ℕ → Option ℕ) : Type 0 where
   pub follow : (to function : ℕ) (args : List ℕ) (r : Around) (a b : ℕ) (known : Option ℕ) (u : FPoint) (k : ℕ) → to < f.values → AreValues f.values args
       → params function ≡ Some (length args) → length args ≤ 8 → PartsAt s.text s.all s.labels a (call_parts to function args) b
       → inside function (map u.words args) (point u.words (spend 48 u.world)) → At s f a known u k
       → Comes s f r b None q k u.world.time (act g call m frame (FStep.Call to function args) (point u.words (spend 48 u.world)))
 
-module _ (laws : Laws) (s : Scene) (scene : IsScene s) (f : Frame) (room : HasRoom f) (g m frame q : ℕ) (call : Calls) (inside : (function : ℕ) → (args : List ℕ) → FPoint → Type 0) (params : ℕ → Option ℕ) (few : q ≤ m) (four : g ≡ 4)
+module _ (laws : Laws) (s : Loaded) (scene : IsLoaded s) (f : Frame) (room : HasRoom f) (g m frame q : ℕ) (call : Calls) (inside : (function : ℕ) → (args : List ℕ) → FPoint → Type 0) (params : ℕ → Option ℕ) (few : q ≤ m) (four : g ≡ 4)
     (calls : CallsFollow s f g m frame q call inside params) where
   -- each step that steps come to is in reach
   abbrev Reached : FSteps → (place : ℕ) → FPoint → Type 0

@@ -32,7 +32,7 @@ use Rattle.select_scope.specs.Frame.{IsFrameAt}
 use Rattle.select_scope.specs.InReach.{RunsInReach}
 use Rattle.select_scope.specs.Laws.{ProgramsLand}
 use Rattle.select_scope.specs.Fits.{FitsFunction, params_of}
-use Rattle.select_scope.specs.Scene.{Scene, IsScene, StartsAs, after, Frame, edge, held_of, Agrees}
+use Rattle.select_scope.specs.Loaded.{Loaded, IsLoaded, StartsAs, after, Frame, edge, held_of, Agrees}
 use Rattle.select_scope.proofs.Agree.{Laws, frame_unnoticed}
 use Rattle.select_scope.proofs.Reach.{Finishes, Ends, control_of}
 use Rattle.select_scope.proofs.Moves.{place_aligned, behind_jump, apart, one_step}
@@ -45,7 +45,7 @@ use Rattle.select_calls.proofs.Calls.{calls_run}
 
 -- ---- The functions of a program stand in its text
 
-functions_stand : (s : Scene) (scene : IsScene s) (fs : List FFunction) (k n a b : ℕ) → PartsAt s.text s.all s.labels a (functions_parts 4 k n fs) b → n + functions_labels 4 fs ≤ scene.count
+functions_stand : (s : Loaded) (scene : IsLoaded s) (fs : List FFunction) (k n a b : ℕ) → PartsAt s.text s.all s.labels a (functions_parts 4 k n fs) b → n + functions_labels 4 fs ≤ scene.count
     → k + length fs ≤ scene.count → ((i : ℕ) → i < length fs → slice_get s.frames (k + i) ≡ Some []) → (i : ℕ) (fn : FFunction) → slice_get fs i ≡ Some fn → FunctionAt s scene (k + i) fn
 functions_stand s scene [] k n a b parts labels own layout i fn is = absurd (let q : ⊥ = cc in q)
 functions_stand s scene (f ∷ fs) k n a b parts labels own layout zero fn is =
@@ -62,7 +62,7 @@ functions_stand s scene (f ∷ fs) k n a b parts labels own layout (suc i) fn is
 
 -- ---- The begin
 
-module _ (laws : Laws) (s : Scene) (scene : IsScene s) where
+module _ (laws : Laws) (s : Loaded) (scene : IsLoaded s) where
   -- the frame of the first call
   abbrev first_frame : (values back : ℕ) → Frame
   first_frame values back = record { sp = GLOBALS_START - 4 * (values + 1); values = values; back = back; places = back ∷ []; entered = []; old = λ at. 0 }

@@ -20,7 +20,7 @@ use Rattle.rv_selected.specs.Follows.{StepsLead}
 use Rattle.flat_landing.specs.Laws.{SharedAppends, KeptMore}
 use Rattle.flat_landing.specs.Shared.{shared}
 use Rattle.select_scope.specs.Frame.{IsFrameAt, IsOfFrame, AreOfFrame, StraightRuns}
-use Rattle.select_scope.specs.Scene.{Scene, Frame, AreHigh, Agrees, IsKept}
+use Rattle.select_scope.specs.Loaded.{Loaded, Frame, AreHigh, Agrees, IsKept}
 
 -- the laws of the layers below
 pub record Laws : Type 0 where
@@ -78,10 +78,10 @@ spent n w = record { memory = refl; stack = refl; depth = refl; input = refl; li
 pub itself : (w : FWorld) → IsLater w w
 itself w = record { memory = refl; stack = refl; depth = refl; input = refl; live = refl; told = refl; time = omega arith }
 
-pub kept_later : (s : Scene) (old new : FWorld) → IsLater old new → IsKept s old.told → IsKept s new.told
+pub kept_later : (s : Loaded) (old new : FWorld) → IsLater old new → IsKept s old.told → IsKept s new.told
 kept_later s old new l h = subst (IsKept s) (sym l.told) h
 
-pub agrees_later : (s : Scene) (f : Frame) (old new : FWorld) (v : World) → IsLater old new → Agrees s f old v → Agrees s f new v
+pub agrees_later : (s : Loaded) (f : Frame) (old new : FWorld) (v : World) → IsLater old new → Agrees s f old v → Agrees s f new v
 agrees_later s f old new v l a = record {
   memory = λ at low high. a.memory at low high ∙ sym (ap (λ m. m at) l.memory);
   above = a.above;
@@ -104,7 +104,7 @@ agrees_later s f old new v l a = record {
 
 -- ---- A core that goes on
 
-module _ (laws : Laws) (s : Scene) where
+module _ (laws : Laws) (s : Loaded) where
   -- what was told, with these events behind it
   more_events : (v : World) (core : Core) (events : List Event) → events_of (gone events core v).told ≡ events_of v.told ++ events
   more_events v core events = laws.events_append v.told (map Happens events) ∙ ap (λ l. events_of v.told ++ l) (laws.events_happen events)

@@ -21,7 +21,7 @@ use Rattle.flat_landing.specs.Laws.{LandingsRun}
 use Rattle.select_scope.specs.ImageOf.{IsImageOf}
 use Rattle.select_scope.specs.InReach.{RunsInReach}
 use Rattle.select_scope.specs.Laws.{IsProgramIn, ProgramsLand, SelectionRuns}
-use Rattle.select_scope.specs.Scene.{Scene, IsScene, StartsAs}
+use Rattle.select_scope.specs.Loaded.{Loaded, IsLoaded, StartsAs}
 
 -- the laws of an image's runs, of labels and of landings
 pub record ImageLaws : Type 0 where
@@ -56,10 +56,10 @@ module _ (laws : ImageLaws) (code : FCode) (image : Image) (of : IsImageOf code 
   abbrev first : World
   first = record { machine = start image; left = input; told = [] }
 
-  abbrev scene : Scene
+  abbrev scene : Loaded
   scene = record { text = image.text; all = selected 4 code; labels = of.resolved.labels; start = first; globals = global_blocks image; frames = image.frames }
 
-  is_scene : IsScene scene
+  is_scene : IsLoaded scene
   is_scene = record {
     form = λ n. (laws.formed image input n of.rules of.bytes bytes).core;
     stands = λ n. laws.stands image input n of.rules of.bytes bytes of.resolved.each;

@@ -16,12 +16,12 @@ use Rattle.rv_machine.specs.Machine.{step, steps}
 use Rattle.rv_asm.specs.declared.parts.BranchOp.{BranchOp}
 use Rattle.rv_asm.specs.declared.parts.Part.TheVariants.{Jump, Branch}
 use Rattle.rv_asm.specs.Runs.{IsAt, PartAt, PartsAt, Takes, Branches, is_taken, at_place, gone}
-use Rattle.rv_selected.specs.Layout.{cell}
+use Rattle.rv_selected.specs.Registers.{cell}
 use Rattle.rv_selected.specs.Steps.{plains}
 use Rattle.rv_selected.specs.Straight.{Held, does_all, AreStraight}
-use Rattle.rv_selected.specs.Follows.{IsKnown, Stands, Keeps}
+use Rattle.rv_selected.specs.Follows.{IsKnown, Stands, KeepsRegisters}
 use Rattle.select_scope.specs.Frame.{IsFrameAt, HoldsAt}
-use Rattle.select_scope.specs.Scene.{Scene, IsScene, after, Frame, HasRoom, held_of, HoldsFrame, Agrees, At}
+use Rattle.select_scope.specs.Loaded.{Loaded, IsLoaded, after, Frame, HasRoom, held_of, HoldsFrame, Agrees, At}
 use Rattle.select_scope.proofs.Agree.{Laws, AreUnnoticed, unnoticed_none, frame_unnoticed, IsLater, kept_later, agrees_later, agrees_gone}
 
 -- ---- Words
@@ -55,11 +55,11 @@ unfolding steps
 one_step w = refl
 
 -- the place where a machine of a scene stands is a multiple of 4
-pub place_aligned : (s : Scene) → IsScene s → (a k : ℕ) → IsAt s.text a (after s k) → a % 4 ≡ 0
+pub place_aligned : (s : Loaded) → IsLoaded s → (a k : ℕ) → IsAt s.text a (after s k) → a % 4 ≡ 0
 place_aligned s scene a k at = ap (λ x. x % 4) (sym at.core.here) ∙ scene.aligned k
 
 -- so is the place behind a jump
-pub behind_jump : (s : Scene) (a b rd l : ℕ) → a % 4 ≡ 0 → PartAt s.text s.all s.labels a (Jump rd l) b → (b % 4 ≡ 0) × (4 ≤ b)
+pub behind_jump : (s : Loaded) (a b rd l : ℕ) → a % 4 ≡ 0 → PartAt s.text s.all s.labels a (Jump rd l) b → (b % 4 ≡ 0) × (4 ≤ b)
 behind_jump s a b rd l even part = (omega (arith, even, part.1.is), omega (arith, part.1.some, part.1.is))
 
 -- ---- Another core with the same frame
@@ -82,7 +82,7 @@ scratch_other c x r ne = get_or-set_other c.registers 5 r x 0 ne
 
 -- ---- Later
 
-pub at_later : (s : Scene) (f : Frame) (b : ℕ) (known : Option ℕ) (u : FPoint) (w : FWorld) (k : ℕ) → IsLater u.world w → At s f b known u k → At s f b known (point u.words w) k
+pub at_later : (s : Loaded) (f : Frame) (b : ℕ) (known : Option ℕ) (u : FPoint) (w : FWorld) (k : ℕ) → IsLater u.world w → At s f b known u k → At s f b known (point u.words w) k
 at_later s f b known u w k l at = record {
   at = at.at;
   frame = at.frame;
@@ -91,7 +91,7 @@ at_later s f b known u w k l at = record {
   kept = kept_later s u.world w l at.kept;
 }
 
-module _ (laws : Laws) (s : Scene) (scene : IsScene s) (f : Frame) (room : HasRoom f) where
+module _ (laws : Laws) (s : Loaded) (scene : IsLoaded s) (f : Frame) (room : HasRoom f) where
   -- the machine stands where its program counter does
   pub stands_at : (n place : ℕ) → (after s n).machine.core.pc ≡ place → (after s n).machine.ending ≡ None → IsAt s.text place (after s n)
   stands_at n place here running = record { core = record { here = here; stands = scene.stands n; form = scene.form n }; running = running }
@@ -174,7 +174,7 @@ module _ (laws : Laws) (s : Scene) (scene : IsScene s) (f : Frame) (room : HasRo
     pub table : new.register 26 ≡ old.register 26
     pub behind : new.word (4 * f.values) ≡ old.word (4 * f.values)
 
-  pub leaves : (old new : Held) → Keeps f.values old new → Leaves old new
+  pub leaves : (old new : Held) → KeepsRegisters f.values old new → Leaves old new
   leaves old new keeps = record {
     eight = keeps.registers 8 (apart 8 5 refl) (apart 8 6 refl);
     table = keeps.registers 26 (apart 26 5 refl) (apart 26 6 refl);

@@ -9,29 +9,29 @@ use Rattle.rv_asm.specs.declared.parts.Part.{Part}
 use Rattle.rv_asm.specs.Runs.{PartsAt}
 use Rattle.rv_code.specs.declared.instr.Instr.{Instr}
 use Rattle.rv_code.specs.declared.instr.Instr.TheVariants.{Lui, Addi}
-use Rattle.rv_selected.specs.Layout.{cell, load, store, constant, is_short}
+use Rattle.rv_selected.specs.Registers.{cell, load, store, constant, is_short}
 use Rattle.rv_selected.specs.Steps.{plains, fetch, operation, number_code, same_code, arith_code}
 use Rattle.rv_selected.specs.Straight.{Held, changed, does_all, IsSet, IsCell, AreStraight}
-use Rattle.rv_selected.specs.Follows.{Stands, Keeps}
-use Rattle.select_scope.specs.Scene.{Scene}
+use Rattle.rv_selected.specs.Follows.{Stands, KeepsRegisters}
+use Rattle.select_scope.specs.Loaded.{Loaded}
 use Rattle.select_scope.proofs.Moves.{cell_is}
 
 -- ---- Parts
 
 -- where the first parts end and the others begin
-pub parts_split : (s : Scene) (xs ys : List Part) (a b : ℕ) → PartsAt s.text s.all s.labels a (xs ++ ys) b
+pub parts_split : (s : Loaded) (xs ys : List Part) (a b : ℕ) → PartsAt s.text s.all s.labels a (xs ++ ys) b
     → (m : ℕ) × PartsAt s.text s.all s.labels a xs m × PartsAt s.text s.all s.labels m ys b
 parts_split s [] ys a b h = (a, refl, h)
 parts_split s (x ∷ xs) ys a b h = let rest = parts_split s xs ys h.0 b h.2 in (rest.0, (h.0, h.1, rest.1), rest.2)
 
 -- where the instructions of one list end and those of the other begin
-pub plains_split : (s : Scene) (x y : List Instr) (a b : ℕ) → PartsAt s.text s.all s.labels a (plains (x ++ y)) b
+pub plains_split : (s : Loaded) (x y : List Instr) (a b : ℕ) → PartsAt s.text s.all s.labels a (plains (x ++ y)) b
     → (m : ℕ) × PartsAt s.text s.all s.labels a (plains x) m × PartsAt s.text s.all s.labels m (plains y) b
 plains_split s [] y a b h = (a, refl, h)
 plains_split s (i ∷ x) y a b h = let rest = plains_split s x y h.0 b h.2 in (rest.0, (h.0, h.1, rest.1), rest.2)
 
 -- and the other way round
-pub plains_join : (s : Scene) (x y : List Instr) (a m b : ℕ) → PartsAt s.text s.all s.labels a (plains x) m → PartsAt s.text s.all s.labels m (plains y) b → PartsAt s.text s.all s.labels a (plains (x ++ y)) b
+pub plains_join : (s : Loaded) (x y : List Instr) (a m b : ℕ) → PartsAt s.text s.all s.labels a (plains x) m → PartsAt s.text s.all s.labels m (plains y) b → PartsAt s.text s.all s.labels a (plains (x ++ y)) b
 plains_join s [] y a m b h rest = subst (λ p. PartsAt s.text s.all s.labels p (plains y) b) h rest
 plains_join s (i ∷ x) y a m b h rest = (h.0, h.1, plains_join s x y h.0 m b h.2 rest)
 
@@ -165,7 +165,7 @@ stored values old f to value v few lt lv e = by_cases (cases_eq v to)
 -- what is fetched stands in x5, and nothing else has changed
 pub record Fetched (values v : ℕ) (words : Words) (old new : Held) : Type 0 where
   pub stands : Stands values (Some v) words new
-  pub keeps : Keeps values old new
+  pub keeps : KeepsRegisters values old new
 
 pub fetched : (values : ℕ) (known : Option ℕ) (words : Words) (v : ℕ) (h : Held) → v < values → Stands values known words h → Fetched values v words h (does_all (fetch known v) h)
 fetched values None words v h lt s = record {

@@ -9,25 +9,25 @@ use Rattle.rv_machine.specs.State.{register_of}
 use Rattle.rv_machine.specs.Environment.{World}
 use Rattle.flat_landing.specs.Lands.{halt_of, KeepsControl}
 use Rattle.flat_landing.specs.Shared.{shared}
-use Rattle.select_scope.specs.Scene.{Scene, after, Frame, Agrees, IsKept, At}
+use Rattle.select_scope.specs.Loaded.{Loaded, after, Frame, Agrees, IsKept, At}
 
 -- ---- Places that are come to
 
 -- From k instructions on, where flat code stood at time t, the machine comes to a place as flat code does to a point, and
 -- takes no more instructions than flat code takes time.
-pub record Arrives (s : Scene) (f : Frame) (place : ℕ) (known : Option ℕ) (u : FPoint) (k t : ℕ) : Type 0 where
+pub record Arrives (s : Loaded) (f : Frame) (place : ℕ) (known : Option ℕ) (u : FPoint) (k t : ℕ) : Type 0 where
   pub count : ℕ
   pub later : k ≤ count
   pub within : count + t ≤ k + u.world.time
   pub there : At s f place known u count
 
 -- to the end of its function, with a word in x9
-pub record Returns (s : Scene) (f : Frame) (place word : ℕ) (u : FPoint) (k t : ℕ) : Type 0 where
+pub record Returns (s : Loaded) (f : Frame) (place word : ℕ) (u : FPoint) (k t : ℕ) : Type 0 where
   pub come : Arrives s f place None u k t
   pub value : register_of (after s come.count).machine.core 9 ≡ word
 
 -- to the same ending
-pub record Finishes (s : Scene) (ending : Ending) (u : FPoint) (k t : ℕ) : Type 0 where
+pub record Finishes (s : Loaded) (ending : Ending) (u : FPoint) (k t : ℕ) : Type 0 where
   pub count : ℕ
   pub later : k ≤ count
   pub within : count + t ≤ k + u.world.time
@@ -37,7 +37,7 @@ pub record Finishes (s : Scene) (ending : Ending) (u : FPoint) (k t : ℕ) : Typ
   pub kept : IsKept s u.world.told
 
 -- It goes on for q instructions at least, where flat code is cut.
-pub record GoesOn (s : Scene) (u : FPoint) (q k : ℕ) : Type 0 where
+pub record GoesOn (s : Loaded) (u : FPoint) (q k : ℕ) : Type 0 where
   pub count : ℕ
   pub later : k + q ≤ count
   pub running : (after s count).machine.ending ≡ None
@@ -45,7 +45,7 @@ pub record GoesOn (s : Scene) (u : FPoint) (q k : ℕ) : Type 0 where
   pub control : KeepsControl s.globals (after s count)
   pub kept : IsKept s u.world.told
 
-abbrev pub Ends : Scene → Ending → FPoint → (q k t : ℕ) → Type 0
+abbrev pub Ends : Loaded → Ending → FPoint → (q k t : ℕ) → Type 0
 Ends s (Ending.Exited word) u q k t = Finishes s (Ending.Exited word) u k t
 Ends s (Ending.Reported kind line) u q k t = Finishes s (Ending.Reported kind line) u k t
 Ends s (Ending.Trapped kind) u q k t = Finishes s (Ending.Trapped kind) u k t
@@ -57,7 +57,7 @@ pub record Around : Type 0 where
   pub back : ℕ
 
 -- where steps that stand up to a place land, by how they are left
-abbrev pub Comes : Scene → Frame → Around → (behind : ℕ) → (known : Option ℕ) → (q k t : ℕ) → Run Way → Type 0
+abbrev pub Comes : Loaded → Frame → Around → (behind : ℕ) → (known : Option ℕ) → (q k t : ℕ) → Run Way → Type 0
 Comes s f r b known q k t (Answer.Goes Way.On u) = Arrives s f b known u k t
 Comes s f r b known q k t (Answer.Goes (Way.Out n) u) = (n < length r.exits) × Arrives s f (s.labels (slice_index r.exits n)) None u k t
 Comes s f r b known q k t (Answer.Goes (Way.Back word) u) = Returns s f (s.labels r.back) word u k t
@@ -65,7 +65,7 @@ Comes s f r b known q k t (Answer.Ends ending u) = Ends s ending u q k t
 
 -- ---- Control at any agreement
 
-pub control_of : (s : Scene) (f : Frame) (w : FWorld) (v : World) → Agrees s f w v → KeepsControl s.globals v
+pub control_of : (s : Loaded) (f : Frame) (w : FWorld) (v : World) → Agrees s f w v → KeepsControl s.globals v
 control_of s f w v a = record { accesses = a.accesses; returns = ap (λ o. is_some_of o) a.returns }
   where
     is_some_of : Option (List ℕ) → Bool
@@ -74,7 +74,7 @@ control_of s f w v a = record { accesses = a.accesses; returns = ap (λ o. is_so
 
 -- ---- From an earlier point
 
-module _ (s : Scene) (f : Frame) where
+module _ (s : Loaded) (f : Frame) where
   abbrev pub arrives_from : (b : ℕ) (known : Option ℕ) (u : FPoint) (k t k' t' : ℕ) → k ≤ k' → k' + t ≤ k + t' → Arrives s f b known u k' t' → Arrives s f b known u k t
   arrives_from b known u k t k' t' le near h = record { count = h.count; later = omega (arith, h.later, le); within = omega (arith, h.within, near); there = h.there }
 

@@ -16,7 +16,7 @@ use Rattle.flat_code.specs.Told as flat
 use Rattle.flat_code.specs.World.{FWorld}
 use Rattle.flat_landing.specs.Shared.{shared}
 use Rattle.rv_machine.specs.Changes.{IsOffTable, AreOffTable}
-use Rattle.select_scope.specs.Scene.{Scene, IsScene, after, Frame, AreHigh, Agrees}
+use Rattle.select_scope.specs.Loaded.{Loaded, IsLoaded, after, Frame, AreHigh, Agrees}
 
 -- ---- The same live blocks
 
@@ -69,7 +69,7 @@ off_table (machine.Happens (event.Access pc at size write base) ∷ told) live e
 
 -- ---- The table's bytes
 
-pub table_byte : (s : Scene) (scene : IsScene s) (f : Frame) (w : FWorld) (k slot : ℕ) → Agrees s f w (after s k) → slot < 2097152
+pub table_byte : (s : Loaded) (scene : IsLoaded s) (f : Frame) (w : FWorld) (k slot : ℕ) → Agrees s f w (after s k) → slot < 2097152
     → slice_index (after s k).machine.core.memory (TABLE_START + slot) ≡ byte_of 4 w.live slot
 table_byte s scene f w k slot a lt =
     let v = after s k in

@@ -13,11 +13,11 @@ use Rattle.flat_landing.specs.Lands.{outcome_of, Lands, RunsAs}
 use Rattle.select_scope.specs.Fits.{FitsProgram}
 use Rattle.select_scope.specs.ImageOf.{IsImageOf}
 use Rattle.select_scope.specs.InReach.{RunsInReach}
-use Rattle.select_scope.specs.Scene.{Scene, IsScene, StartsAs, after}
+use Rattle.select_scope.specs.Loaded.{Loaded, IsLoaded, StartsAs, after}
 
 -- The selected parts of a program that fits stand in the text, from its begin on, and its frames have no objects.
-pub record IsProgramIn (s : Scene) (code : FCode) : Type 0 where
-  pub scene : IsScene s
+pub record IsProgramIn (s : Loaded) (code : FCode) : Type 0 where
+  pub scene : IsLoaded s
   pub end : ℕ
   pub parts : PartsAt s.text s.all s.labels 4096 (selected 4 code) end
   pub labels : length code.functions + functions_labels 4 code.functions ≤ scene.count
@@ -28,7 +28,7 @@ pub record IsProgramIn (s : Scene) (code : FCode) : Type 0 where
 -- flat code for which each step that the run comes to is in reach: so its runs are those of flat code.
 abbrev pub ProgramsLand : Type 0
 ProgramsLand =
-    (s : Scene) (code : FCode) → IsProgramIn s code → (globals : List Block) (input : List ℕ) → StartsAs s (start code.initial globals input).world
+    (s : Loaded) (code : FCode) → IsProgramIn s code → (globals : List Block) (input : List ℕ) → StartsAs s (start code.initial globals input).world
     → (m : ℕ) → RunsInReach code globals s.frames input m → Lands s.globals (outcome_of (flat_run 4 code globals s.frames input m)) m (λ n. after s n)
 
 -- An image of the selected code of a program that fits runs as its flat code does, with the image's global blocks and frames,

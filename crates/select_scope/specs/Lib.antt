@@ -1,5 +1,5 @@
 pub mod Frame
-pub mod Scene
+pub mod Loaded
 pub mod Fits
 pub mod InReach
 pub mod ImageOf

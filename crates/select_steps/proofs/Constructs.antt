@@ -10,7 +10,7 @@ use Rattle.rv_asm.specs.declared.parts.Part.{Part}
 use Rattle.rv_asm.specs.declared.parts.Part.TheVariants.{Label, Jump}
 use Rattle.rv_asm.specs.Runs.{PartAt, PartsAt}
 use Rattle.rv_selected.specs.Selection.{choice_parts}
-use Rattle.select_scope.specs.Scene.{Scene, IsScene, after, Frame, HasRoom, At}
+use Rattle.select_scope.specs.Loaded.{Loaded, IsLoaded, after, Frame, HasRoom, At}
 use Rattle.select_scope.proofs.Agree.{Laws, spent}
 use Rattle.select_scope.proofs.Reach.{Arrives, Around, Comes, control_of, arrives_from, comes_on, comes_from}
 use Rattle.select_scope.proofs.Moves.{at_later, Moved, jumps_to, branches_to}
@@ -20,7 +20,7 @@ use Rattle.select_scope.proofs.Pieces.{parts_split}
 abbrev pub within : ℕ → Around → Around
 within l r = record { exits = l ∷ r.exits; back = r.back }
 
-module _ (laws : Laws) (s : Scene) (scene : IsScene s) (f : Frame) (room : HasRoom f) where
+module _ (laws : Laws) (s : Loaded) (scene : IsLoaded s) (f : Frame) (room : HasRoom f) where
   -- the place of a label that stands here
   pub label_here : (l a b : ℕ) → l < scene.count → PartAt s.text s.all s.labels a (Label l) b → (s.labels l ≡ a) × (b ≡ a)
   label_here l a b lt part = (part.0 (scene.once l lt), part.1)

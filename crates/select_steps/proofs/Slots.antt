@@ -10,10 +10,10 @@ use Rattle.marked_ptr.specs.Marked.{marked_slot}
 use Rattle.flat_code.specs.World.{with_word, FPoint, point, spend}
 use Rattle.flat_code.specs.Run.{slot_or_ones, slot_word}
 use Rattle.rv_asm.specs.Runs.{PartsAt}
-use Rattle.rv_selected.specs.Layout.{cell, store}
+use Rattle.rv_selected.specs.Registers.{cell, store}
 use Rattle.rv_selected.specs.Steps.{plains, fetch, owner_code, slot_code}
 use Rattle.rv_selected.specs.Straight.{does_all, AreStraight}
-use Rattle.select_scope.specs.Scene.{Scene, IsScene, Frame, HasRoom, At}
+use Rattle.select_scope.specs.Loaded.{Loaded, IsLoaded, Frame, HasRoom, At}
 use Rattle.select_scope.proofs.Agree.{Laws, itself}
 use Rattle.select_scope.proofs.Reach.{Arrives}
 use Rattle.select_scope.proofs.Moves.{behind_apart, held, row}
@@ -112,7 +112,7 @@ owner_straight words = (
   ),
 )
 
-module _ (laws : Laws) (s : Scene) (scene : IsScene s) (f : Frame) (room : HasRoom f) where
+module _ (laws : Laws) (s : Loaded) (scene : IsLoaded s) (f : Frame) (room : HasRoom f) where
   pub slot_runs : (to from a b : ℕ) (known : Option ℕ) (u : FPoint) (k : ℕ) → to < f.values → from < f.values
       → PartsAt s.text s.all s.labels a (plains (slot_code 4 known to from)) b → At s f a known u k
       → Arrives s f b None (point (with_word u.words to (slot_word 4 (u.words from))) (spend 12 u.world)) k u.world.time

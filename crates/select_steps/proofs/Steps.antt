@@ -7,17 +7,17 @@ use Rattle.flat_code.specs.World.{Words, with_word, FPoint, point, spend}
 use Rattle.rv_asm.specs.declared.parts.Part.TheVariants.{Plain, Jump}
 use Rattle.rv_asm.specs.Runs.{PartsAt}
 use Rattle.rv_code.specs.declared.instr.Instr.{Instr}
-use Rattle.rv_selected.specs.Layout.{cell, load}
+use Rattle.rv_selected.specs.Registers.{cell, load}
 use Rattle.rv_selected.specs.Steps.{plains, held_after, number_code, same_code, arith_code, fetch}
 use Rattle.rv_selected.specs.Straight.{does_all, AreStraight}
 use Rattle.rv_selected.specs.Follows.{Leads}
-use Rattle.select_scope.specs.Scene.{Scene, IsScene, after, Frame, HasRoom, At}
+use Rattle.select_scope.specs.Loaded.{Loaded, IsLoaded, after, Frame, HasRoom, At}
 use Rattle.select_scope.proofs.Agree.{Laws, spent}
 use Rattle.select_scope.proofs.Reach.{Arrives, Returns}
 use Rattle.select_scope.proofs.Moves.{apart, word_is_small, at_later, jumps_to, leaves, held, row}
 use Rattle.select_scope.proofs.Pieces.{load_straight, number_straight, same_straight, arith_straight, fetch_straight, number_length, same_length, arith_length, fetch_length, fetched}
 
-module _ (laws : Laws) (s : Scene) (scene : IsScene s) (f : Frame) (room : HasRoom f) where
+module _ (laws : Laws) (s : Loaded) (scene : IsLoaded s) (f : Frame) (room : HasRoom f) where
   -- the values of the call are words
   pub values_small : (a : ℕ) (known : Option ℕ) (u : FPoint) (k : ℕ) → At s f a known u k → (v : ℕ) → v < f.values → u.words v < 2 ^ 32
   values_small a known u k at v lt = subst (λ (n : ℕ). n < 2 ^ 32) (at.frame.stands.cells v lt) (word_is_small (after s k).machine.core (f.sp + cell v) (scene.form k))

@@ -25,12 +25,12 @@ use Rattle.rv_machine.specs.State.{Core, register_of, gives, next}
 use Rattle.rv_machine.specs.Instruction.{Goes, Asks, core_events}
 use Rattle.rv_machine.specs.Environment.{World, with_machine, exits, gets, gets_from, puts, kind_of, reported_if, reports, calls}
 use Rattle.rv_machine.specs.Machine.{step, steps}
-use Rattle.rv_selected.specs.Layout.{cell, load, store}
+use Rattle.rv_selected.specs.Registers.{cell, load, store}
 use Rattle.rv_selected.specs.Steps.{plains, line_code, kind_number}
 use Rattle.rv_selected.specs.Follows.{IsKnown}
 use Rattle.flat_landing.specs.Lands.{KeepsControl}
 use Rattle.flat_landing.specs.Shared.{shared}
-use Rattle.select_scope.specs.Scene.{Scene, IsScene, after, Frame, HasRoom, held_of, AreHigh, HoldsFrame, Agrees, IsKept, At}
+use Rattle.select_scope.specs.Loaded.{Loaded, IsLoaded, after, Frame, HasRoom, held_of, AreHigh, HoldsFrame, Agrees, IsKept, At}
 use Rattle.select_straight.proofs.Straight.{step_acts}
 use Rattle.select_scope.proofs.Agree.{Laws, spent, itself, agrees_later}
 use Rattle.select_scope.proofs.Reach.{Arrives, Finishes, control_of}
@@ -67,7 +67,7 @@ step_one : (w : World) → steps 1 w ≡ step w
 unfolding steps
 step_one w = refl
 
-module _ (laws : Laws) (s : Scene) where
+module _ (laws : Laws) (s : Loaded) where
   pub agrees_more : (f : Frame) (w : FWorld) (v v' : World) (more : List machine.Tell) (new : List Stamped) (input : List ℕ) → SaysAs more new → IsMore v v' more → v'.left ≡ input
       → Agrees s f w v → Agrees s f (saying new input w) v'
   agrees_more f w v v' more new input says is left a =
@@ -120,7 +120,7 @@ kind_back report.BadFree = refl
 kind_back report.Depth = refl
 kind_back report.Stack = refl
 
-module _ (laws : Laws) (s : Scene) (scene : IsScene s) (f : Frame) (room : HasRoom f) where
+module _ (laws : Laws) (s : Loaded) (scene : IsLoaded s) (f : Frame) (room : HasRoom f) where
   abbrev core_at : ℕ → Core
   core_at k = (after s k).machine.core
 

@@ -16,13 +16,13 @@ use Rattle.rv_code.specs.declared.instr.Instr.TheVariants.{Lui, Addi}
 use Rattle.rv_machine.specs.State.{Core, register_of, set_register, gives}
 use Rattle.rv_machine.specs.Instruction.{Goes}
 use Rattle.rv_machine.specs.Machine.{step, steps}
-use Rattle.rv_selected.specs.Layout.{cell, store, constant, is_short}
+use Rattle.rv_selected.specs.Registers.{cell, store, constant, is_short}
 use Rattle.rv_selected.specs.Selection.{zeros, parameters}
 use Rattle.rv_selected.specs.Steps.{plains}
 use Rattle.rv_selected.specs.Straight.{Held, changed, with_register, with_word, does_all, AreStraight}
 use Rattle.bb_watch.specs.declared.event.Event.{Event}
 use Rattle.select_scope.specs.Frame.{IsFrameAt, HoldsAt}
-use Rattle.select_scope.specs.Scene.{Scene, IsScene, after, Frame, edge, held_of, Agrees}
+use Rattle.select_scope.specs.Loaded.{Loaded, IsLoaded, after, Frame, edge, held_of, Agrees}
 use Rattle.select_straight.proofs.Straight.{step_acts}
 use Rattle.select_scope.proofs.Agree.{Laws, unnoticed_none, frame_unnoticed, agrees_gone}
 use Rattle.select_scope.proofs.Moves.{apart, cell_is, one_step}
@@ -74,7 +74,7 @@ constant_straight_at words r n low high lt = by_tests (is_short n) (n % 4096 == 
     by_tests false true = (((is_set r low high, lt), tt), omega arith)
     by_tests false false = (((is_set r low high, omega arith), ((is_set r low high, high), tt)), omega arith)
 
-module _ (laws : Laws) (s : Scene) (scene : IsScene s) where
+module _ (laws : Laws) (s : Loaded) (scene : IsLoaded s) where
   abbrev pub core_at : ℕ → Core
   core_at k = (after s k).machine.core
 

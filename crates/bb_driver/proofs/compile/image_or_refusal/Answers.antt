@@ -1,9 +1,8 @@
 use Rattle.bounds_instr_code.specs.Code.{global_blocks}
 use Rattle.std.specs.Prelude.{map}
-use Rattle.std.proofs.Common.{◌≡◌, true, sym, ap, subst, [], arith}
+use Rattle.std.proofs.Common.{◌≡◌, true, sym, subst, [], arith}
 use Rattle.std.proofs.lemmas.Result.{err_from_is_err_and}
-use Rattle.typed_tree.specs.TypedViews.{function_of, program_of}
-use Rattle.typed_tree.specs.Counts.{nodes_of_functions}
+use Rattle.typed_tree.specs.TypedViews.{program_of}
 use Rattle.mid_code.specs.Formed.{Formed}
 use Rattle.mid_code.specs.Safe.{Safe, site_of}
 use Rattle.mid_code.specs.Views as mid
@@ -55,5 +54,5 @@ returns c =
       code = code;
       safe = subst (λ sites. Safe (mid.program_of c.in_ok-mid.mid) (map site_of sites)) (sym c.new.ensures) (none_safe p (mid.program_of c.in_ok-mid.mid) code.keeps);
       unchecked = c.new.ensures;
-      nodes = omega (arith, c.nodes_of.ensures, c.in_ok-mid.ensures.0, ap (λ fs. nodes_of_functions (map function_of fs)) c.as_slice.ensures);
+      nodes = omega (arith, c.in_ok-counts.ensures.nodes, c.in_ok-mid.ensures.0);
     }

@@ -10,5 +10,5 @@ returns-then-g-sheets-clause-rules c =
 
 pub returns-clause-rules : goal.returns-clause-rules
 returns-clause-rules c =
-    subst (λ x. OnOk c.push_passes.result (rules_of c.push_passes.new.stretches.items ≡ rules_of c.args.stretches.now.items ++ x))
-    (sym (callee (sheet_of c.args.from.now) c.args.sheets.now c.args.function c.args.place c.index-sheets-g.result c.args.args.now c.if-g-sheets.false c.index-sheets-g.is)) c.push_passes.ensures.rules
+    subst (λ x. OnOk c.push_passes_rules.result (rules_of c.push_passes_rules.new.stretches.items ≡ rules_of c.args.stretches.now.items ++ x))
+    (sym (callee (sheet_of c.args.from.now) c.args.sheets.now c.args.function c.args.place c.index-sheets-g.result c.args.args.now c.if-g-sheets.false c.index-sheets-g.is)) c.push_passes_rules.ensures.rules

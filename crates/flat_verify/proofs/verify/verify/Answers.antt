@@ -6,8 +6,8 @@ use Rattle.flat_verify.specs.Places.{place_of}
 use Rattle.flat_verify.specs.Views.{block_of, blocks_of}
 use Rattle.flat_verify.proofs.verify.verify.Goals as goal
 
-pub returns-in-None-clause-safe : goal.returns-in-None-clause-safe
-returns-in-None-clause-safe c =
+pub returns-clause-safe : goal.returns-clause-safe
+returns-clause-safe c =
     let code = code_of c.args.code.now in
     let none = subst (λ o. FirstBreak c.args.g (map block_of c.as_slice-globals.result.now) code (option_map place_of o)) c.in-None.is c.in_ok-first.ensures in
     let disciplined = subst (λ xs. IsDisciplined c.args.g (map block_of xs) code) c.as_slice-globals.ensures none in

@@ -11,7 +11,7 @@ use Rattle.lowering_code.proofs.Readied.{few_locals, function_is}
 use Rattle.lowering_code.proofs.program.code_function.Goals as goal
 
 pub overflow_cast-locals : goal.overflow_cast-locals
-overflow_cast-locals c = omega (arith, c.len-locals.ensures, length-map c.args.f.now.locals local_of, few_locals (function_of c.args.f.now) c.requires)
+overflow_cast-locals c = omega (arith, c.len-locals.ensures, length-map c.args.f.now.locals local_of, few_locals (function_of c.args.f.now) c.requires.ready)
 
 pub returns : goal.returns
 returns c =
@@ -19,9 +19,9 @@ returns c =
     let structs = map struct_of c.args.structs.now in
     let inner = steps_of c.code_stmt.new.code.items in
     let body = steps_of c.put.new.code.items in
-    let as_function : List MidBlock → Function = λ blocks. record { line = f.line; values = c.values_of.result; params = f.params; blocks = map block_of blocks; body = body } in
+    let as_function : List MidBlock → Function = λ blocks. record { line = f.line; values = c.args.values; params = f.params; blocks = map block_of blocks; body = body } in
     ap as_function c.new.ensures
-    ∙ function_is structs f c.values_of.result c.len-locals.result inner body (step_of c.block.result) c.requires c.values_of.ensures
+    ∙ function_is structs f c.args.values c.len-locals.result inner body (step_of c.block.result) c.requires.ready c.requires.values
     (c.len-locals.ensures ∙ sym (length-map c.args.f.now.locals local_of))
     (from_nothing c.new-inner.result.items inner (stmt_code structs (stmt_of c.args.f.now.body) 1 c.len-locals.result) c.new-inner.ensures.items c.in_ok-code_stmt.ensures)
     c.block.ensures

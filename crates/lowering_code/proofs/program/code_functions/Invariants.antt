@@ -5,6 +5,6 @@ use Rattle.mid_code.specs.Views.{function_of as mid_function}
 use Rattle.lowering_code.specs.Lower.{function_code}
 use Rattle.lowering_code.proofs.program.code_functions.Given as goal
 
-abbrev pub invariant-loop-f : goal.invariant-loop-f
-invariant-loop-f l =
-    map mid_function l.code ++ map (function_code (map struct_of l.structs)) (map function_of (drop l.f-index l.functions)) ≡ map (function_code (map struct_of l.structs)) (map function_of l.functions)
+abbrev pub invariant-loop-number : goal.invariant-loop-number
+invariant-loop-number l =
+    map mid_function l.code ++ map (function_code (map struct_of l.structs)) (map function_of (drop l.number l.functions)) ≡ map (function_code (map struct_of l.structs)) (map function_of l.functions)

@@ -1,5 +1,5 @@
 use Rattle.std.proofs.Common.{ap, ◌∙◌, ◌∷◌, []}
-use Rattle.rv_selected.specs.Layout.{load}
+use Rattle.rv_selected.specs.Registers.{load}
 use Rattle.rv_select.proofs.Emitted.{span_made}
 use Rattle.rv_select.proofs.checks.put_span.Goals as goal
 

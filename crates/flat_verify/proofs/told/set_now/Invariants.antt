@@ -1,6 +1,0 @@
-use Rattle.std.proofs.Common.{◌≡◌}
-use Rattle.flat_verify.proofs.Origins.{Unset}
-use Rattle.flat_verify.proofs.told.set_now.Given as goal
-
-abbrev pub invariant-loop-k : goal.invariant-loop-k
-invariant-loop-k l = (l.origins.items ≡ l.initial.origins.items) × Unset l.value l.origins.items l.k
