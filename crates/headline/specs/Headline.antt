@@ -45,8 +45,9 @@ told_as e = ending_of (stop_of (halt_of e))
 
 -- What is promised, where p is the program of the text:
 pub record IsPromised {text input : List ℕ} {n : ℕ} (p : CProgram) (r : RunOf text input n) : Type 0 where
-  -- Of the image that was run, each of the first n instructions is safe: each pointer that is moved stays in its block, or is
-  -- marked, or ends the run; each access lies in one live block; the control flow is that of the code.
+  -- Of the image that was run, the first n instructions are safe: the result of each pointer move that is told lies in its
+  -- operand's block or within half a slot of it; data is accessed in a live block, or in a slot that a block had which has
+  -- ended; by x2 the control stack alone is accessed, and by x31 the size table is read.
   pub image : Image
   pub safely : SafeRun SLOT_EXPONENT image input n
   -- Where the program has ended, within what its nodes and bytes pay for, the call ends so, and has written the same.
